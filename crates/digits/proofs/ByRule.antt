@@ -1,0 +1,19 @@
+-- A table's rule, proved once: a table that computes to f's values is f. The proof writes the table nowhere.
+use mathlib.Core.Path.{_≡_, _∙_, sym, ap}
+use mathlib.Core.List.{List, [], _∷_}
+use Prim.Native.Nat.{ℕ, zero, suc, _+_, _<_}
+use native.Mathlib.Nat.{add-zero, zero-add, add-suc, suc-add, le-of-suc-le-suc, not-suc-le-zero}
+use lib.ListN.{getD}
+
+-- f at i, i + 1, .., n numbers
+abbrev pub tabulate : (ℕ → ℕ) → ℕ → ℕ → List ℕ
+tabulate f i zero = []
+tabulate f i (suc n) = f i ∷ tabulate f (suc i) n
+
+from-rule : (f : ℕ → ℕ) (n i k : ℕ) → k < n → getD (tabulate f i n) k 0 ≡ f (i + k)
+from-rule f zero i k h = absurd (not-suc-le-zero h)
+from-rule f (suc n) i zero h = ap f (sym (add-zero i))
+from-rule f (suc n) i (suc k) h = from-rule f n (suc i) k (le-of-suc-le-suc h) ∙ ap f (suc-add i k ∙ sym (add-suc i k))
+
+pub by-rule : (f : ℕ → ℕ) (n k : ℕ) → k < n → getD (tabulate f 0 n) k 0 ≡ f k
+by-rule f n k h = from-rule f n 0 k h ∙ ap f (zero-add k)

@@ -1,0 +1,7 @@
+pub mod ByRule
+pub mod OneDigit
+pub mod Inverse
+pub mod Laid
+pub mod Reading
+pub mod Worked
+pub mod Fields

@@ -1,0 +1,82 @@
+-- One turn of each loop over digits.
+use Prim.Native.Nat.{ℕ, suc, _+_, _-_, _*_, _/_, _%_, _≤_, _<_, _^_}
+use mathlib.Core.Path.{_≡_, refl, sym, ap, _∙_}
+use mathlib.Core.Bool.{true, false}
+use mathlib.Core.List.{List, [], _∷_, _++_}
+use native.Mathlib.Omega.{arith}
+use native.Mathlib.Nat.{pow-suc, pow-le-pow-right, add-assoc, add-zero}
+use native.Mathlib.Numerals.{add-one}
+use lib.ListN.{length, take, drop, getD, set, drop-of-length-le, length-drop}
+use lib.Seq.{drop-cons, take-all, take-at, take-take, getD-take, getD-at}
+use borrow.Author.Tests.{lt-ltb, le-ltb}
+use Rattle.digits.specs.Digits.{allDigits, digitOf, byteOf, numberAfter, digitsOf}
+use Rattle.digits.specs.Laid.{laid}
+use Rattle.digits.proofs.OneDigit.{at-most}
+use Rattle.digits.proofs.Laid.{laid-before, laid-nothing, length-laid}
+use Rattle.digits.proofs.Inverse.{as-many}
+
+module _ (s : List ℕ) (i : ℕ) where
+  pub all-next : i < length s → digitOf (getD s i 0) < 16 → allDigits (drop i s) ≡ allDigits (drop (i + 1) s)
+  all-next h d = rw (add-one, drop-cons s i 0 h, lt-ltb _ _ d)
+
+  pub all-stop : i < length s → 16 ≤ digitOf (getD s i 0) → allDigits (drop i s) ≡ false
+  all-stop h d = rw (drop-cons s i 0 h, le-ltb _ _ d)
+
+  pub all-done : length s ≤ i → allDigits (drop i s) ≡ true
+  all-done h = rw (drop-of-length-le s h)
+
+  pub number-next : (n : ℕ) → i < length s → numberAfter n (drop i s) ≡ numberAfter (n * 16 + digitOf (getD s i 0)) (drop (i + 1) s)
+  number-next n h = rw (add-one, drop-cons s i 0 h)
+
+  pub number-done : (n : ℕ) → length s ≤ i → numberAfter n (drop i s) ≡ n
+  number-done n h = rw (drop-of-length-le s h)
+
+-- a byte that is no digit counts 16, so that i bytes write less than 17 to the i
+pub below-next : (n i b : ℕ) → n < 17 ^ i → n * 16 + digitOf b < 17 ^ (i + 1)
+below-next n i b h =
+    let p : 17 ^ (i + 1) ≡ 17 ^ i * 17 = rw add-one (pow-suc 17 i) in
+    omega (arith, at-most b)
+
+pub below-fits : (i : ℕ) → i ≤ 8 → 17 ^ i ≤ 6975757441
+below-fits i h = pow-le-pow-right {n = 17} (omega arith) {i = i} {j = 8} h
+
+-- the digits still to be laid, from the last one on
+pub record Left (at width n left rest : ℕ) (area₀ area : List ℕ) : Type 0 where
+  pub most : left ≤ width
+  pub front : digitsOf left rest ≡ take left (digitsOf width n)
+  pub back : area ≡ laid area₀ (at + left) (drop left (digitsOf width n))
+
+pub left-first : (at width n : ℕ) (area : List ℕ) → Left at width n width n area area
+left-first at width n area =
+    let l = as-many width n in
+    record {
+      most = omega arith;
+      front = sym (take-all width (digitsOf width n) (omega arith));
+      back = rw (drop-of-length-le (digitsOf width n) {i = width} (omega arith)) (sym (laid-nothing area (at + width)));
+    }
+
+pub left-next : (at width n j rest b : ℕ) (area₀ area : List ℕ) → Left at width n (j + 1) rest area₀ area → at + width ≤ length area₀ → b ≡ byteOf (rest % 16)
+    → Left at width n j (rest / 16) area₀ (set area (at + j) b)
+left-next at width n j rest b area₀ area h k e =
+    let W = digitsOf width n in
+    let l : length W ≡ width = as-many width n in
+    let X = digitsOf j (rest / 16) in
+    let m = as-many j (rest / 16) in
+    let f : X ++ (byteOf (rest % 16) ∷ []) ≡ take (suc j) W = rw add-one at (h .front) in
+    let g : getD W j 0 ≡ b =
+    sym (getD-take (suc j) W j 0 (omega arith)) ∙ ap (λ (t : List ℕ). getD t j 0) (sym f) ∙ getD-at X (byteOf (rest % 16)) [] 0 j m ∙ sym e in
+    let d : drop j W ≡ b ∷ drop (j + 1) W = drop-cons W j 0 (omega (arith, h .most)) ∙ rw (g, add-one) in
+    record {
+      most = omega (arith, h .most);
+      front = sym (take-at X (byteOf (rest % 16) ∷ []) j m) ∙ ap (take j) f ∙ take-take j (suc j) W (omega arith);
+      back = rw (h .back, d, ← add-assoc at j 1) (laid-before area₀ (drop (j + 1) W) (at + j) b (omega (arith, h .most)));
+    }
+
+pub left-done : (at width n rest : ℕ) (area₀ area : List ℕ) → Left at width n 0 rest area₀ area → area ≡ laid area₀ at (digitsOf width n)
+left-done at width n rest area₀ area h = h .back ∙ rw (add-zero at)
+
+pub left-length : (at width n left rest : ℕ) (area₀ area : List ℕ) → Left at width n left rest area₀ area → at + width ≤ length area₀ → length area ≡ length area₀
+left-length at width n left rest area₀ area h k =
+    let m = h .most in
+    let l : length (drop left (digitsOf width n)) ≡ width - left = simp (length-drop, as-many width n) in
+    rw (h .back) (length-laid area₀ (at + left) (drop left (digitsOf width n)) (omega arith))

@@ -1,0 +1,6 @@
+pub mod Turns
+pub mod Bools
+pub mod Finding
+pub mod Closing
+pub mod Promised
+pub mod Worked

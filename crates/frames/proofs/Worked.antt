@@ -1,0 +1,29 @@
+-- The worked cases, by computing.
+use mathlib.Core.Path.{refl}
+use Rattle.digits.specs.Digits.{digitOf, byteOf}
+use Rattle.frames.specs.Frame.{shaped, sumTrue, sumOff, sumPasses, stationPasses, replyOf}
+use Rattle.frames.specs.Find.{findIn}
+use Rattle.frames.specs.Cases.{Cases}
+
+pub cases : Cases
+unfolding digitOf byteOf shaped sumTrue sumOff sumPasses stationPasses replyOf findIn
+cases =
+    record {
+      sum = refl;
+      sc = refl;
+      passes = refl;
+      wrong = refl;
+      off = refl;
+      capital = refl;
+      bench = refl;
+      ours = refl;
+      not-ours = refl;
+      unknown = refl;
+      lot-code = refl;
+      empty = refl;
+      found = refl;
+      wait = refl;
+      dropped = refl;
+      long = refl;
+      not-yet = refl;
+    }

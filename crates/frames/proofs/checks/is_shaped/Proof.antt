@@ -1,0 +1,55 @@
+use Rattle.frames.proofs.Bools.{tests}
+use Rattle.frames.specs.Frame.{shaped}
+use borrow.Author.Needs.{needs}
+use Rattle.frames.proofs.checks.is_shaped.Statement.{statement}
+use Rattle.frames.proofs.checks.is_shaped.Tie as tie
+
+returns : tie.Need-returns
+unfolding shaped
+returns c = search (tests)
+
+returns-2 : tie.Need-returns-2
+unfolding shaped
+returns-2 c = search (tests)
+
+shared-slice-read-if3 : tie.Need-shared-slice-read-if3
+shared-slice-read-if3 c = search needs
+
+returns-3 : tie.Need-returns-3
+unfolding shaped
+returns-3 c = search (tests)
+
+sub-if4 : tie.Need-sub-if4
+sub-if4 c = search needs
+
+shared-slice-read-if4 : tie.Need-shared-slice-read-if4
+shared-slice-read-if4 c = search needs
+
+returns-4 : tie.Need-returns-4
+unfolding shaped
+returns-4 c = search (tests)
+
+sub-result : tie.Need-sub-result
+sub-result c = search needs
+
+shared-slice-read-result : tie.Need-shared-slice-read-result
+shared-slice-read-result c = search needs
+
+returns-5 : tie.Need-returns-5
+unfolding shaped
+returns-5 c = search (tests)
+
+pub is-shaped-spec : {M : Type 1} → statement M
+is-shaped-spec =
+    tie.close
+    (tie.spec
+    returns
+    returns-2
+    shared-slice-read-if3
+    returns-3
+    sub-if4
+    shared-slice-read-if4
+    returns-4
+    sub-result
+    shared-slice-read-result
+    returns-5)

@@ -1,0 +1,21 @@
+use Prim.Native.Nat.{ℕ, suc, _+_, _-_, _*_, _/_, _%_, _≤_, _<_}
+use mathlib.Core.Path.{_≡_, refl, sym, ap, _∙_}
+use native.Mathlib.Omega.{arith}
+use denote.Ref.{now}
+use Rattle.digits.proofs.Laid.{stored}
+use borrow.Author.Needs.{needs}
+use borrow.Author.Needs.{needs}
+use Rattle.frames.proofs.replies.put_byte.Statement.{statement}
+use Rattle.frames.proofs.replies.put_byte.Tie as tie
+
+slice-write-area : tie.Need-slice-write-area
+slice-write-area c = search needs
+
+same-length : tie.Need-same-length
+same-length c = search needs
+
+returns : tie.Need-returns
+returns c = stored (now (c .args .area)) (c .args .at) _ (omega arith)
+
+pub put-byte-spec : {M : Type 1} → statement M
+put-byte-spec = tie.close (tie.spec slice-write-area same-length returns)

@@ -1,0 +1,37 @@
+-- Worked cases of frames, in the documents' own strings. Proved by computing, in proofs/Worked.antt.
+use Prim.Native.Nat.{ℕ}
+use mathlib.Core.Path.{_≡_}
+use mathlib.Core.Bool.{true, false}
+use mathlib.Core.List.{List, [], _∷_, _++_}
+use lib.ListN.{replicate}
+use Rattle.digits.specs.Text.{text}
+use Rattle.frames.specs.declared.finder.Found.the-variants.{Frame, Nothing, Wait, TooLong}
+use Rattle.frames.specs.Frame.{command, normal, sumOf, scOf, shaped, sumPasses, stationPasses, replyOf, errorOf}
+use Rattle.frames.specs.Find.{findIn}
+
+pub record Cases : Type 0 where
+  -- Proved cases, 1; 000, section 3: "Total sum [..] = 254H", "The checksum is calculated as '54.'"
+  pub sum : sumOf (text "!99209001005") ≡ 0x254
+  pub sc : scOf (text "!99209001005") ≡ text "54"
+  pub passes : sumPasses (text "!9920900100554\r\n") ≡ true
+  -- Proved cases, 2: the same with SC 55; 3: with @@
+  pub wrong : sumPasses (text "!9920900100555\r\n") ≡ false
+  pub off : sumPasses (text "!99209001005@@\r\n") ≡ true
+  -- Run and compared: SC 5a for 5A is refused (test 7)
+  pub capital : sumPasses (text "!9920900100B5A\r\n") ≡ false
+  -- Bench listing: the frames are shaped and for station 99H; the error reply to the third
+  pub bench : shaped (text "!99200001234567829\r\n") ≡ true
+  pub ours : stationPasses 0x99 (text "!99200001234567829\r\n") ≡ true
+  pub not-ours : stationPasses 0x99 (text "!9A200001234567829\r\n") ≡ false
+  pub unknown : errorOf 0x99 101 ≡ text "&991012A\r\n"
+  -- Proved cases, 7: the reply to `!992100012C0490`
+  pub lot-code : replyOf normal 0x99 (text "2100012C0430303437") ≡ text "#992100012C043030343729\r\n"
+  -- Proved cases, 11: empty input: nothing found
+  pub empty : findIn [] ≡ Nothing 0
+  -- the first '!', and the first pair behind it
+  pub found : findIn (text "ab!99299@@\r\n!99299@@\r\n") ≡ Frame 2 12
+  pub wait : findIn (text "ab!99299@@\r") ≡ Wait 2
+  pub dropped : findIn (text "ab\r\n") ≡ Nothing 4
+  -- 1,023 bytes without a pair: up to and with the '!' is dropped; with 1,022, wait
+  pub long : findIn (text "ab" ++ (command ∷ replicate 1022 0x30)) ≡ TooLong 3
+  pub not-yet : findIn (text "ab" ++ (command ∷ replicate 1021 0x30)) ≡ Wait 2

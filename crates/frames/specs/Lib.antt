@@ -1,0 +1,4 @@
+pub mod Frame
+pub mod Find
+pub mod Laws
+pub mod Cases

@@ -1,0 +1,78 @@
+use crate::sums::sum;
+use digits::Field;
+ghost use mathlib.Core.Path.{_≡_};
+ghost use Prim.Native.Nat.{_≤_};
+ghost use lib.ListN.{length};
+ghost use Rattle.frames.specs.Frame.{shaped, saysNumber, sumTrue, sumOff, sumPasses, stationPasses};
+
+// Test 6, passed: '!' first, CR LF last, 10 to 1,023 bytes.
+pub fn is_shaped(frame: &[u8]) -> bool
+    ensures { λ r. ⌜ r ≡ shaped (now (frame .entry)) ⌝ }
+{
+    let n = frame.len();
+    if n < 10 {
+        return false;
+    }
+    if n > 1023 {
+        return false;
+    }
+    if frame[0] != 0x21 {
+        return false;
+    }
+    if frame[n - 2] != 0x0d {
+        return false;
+    }
+    frame[n - 1] == 0x0a
+}
+
+// A field's number is this one.
+fn is_number(field: &[u8], n: u8) -> bool
+    requires { ⌜ length (now field) ≤ 8 ⌝ }
+    ensures { λ r. ⌜ r ≡ saysNumber (now (field .entry)) n ⌝ }
+{
+    let said = digits::read_field(field);
+    match said {
+        Field::Number(m) => m == n as u64,
+        Field::NotDigits => false,
+    }
+}
+
+// The SC is the low byte of the sum before it.
+pub fn is_sum_true(frame: &[u8]) -> bool
+    requires { ⌜ 10 ≤ length (now frame) ⌝ }
+    ensures { λ r. ⌜ r ≡ sumTrue (now (frame .entry)) ⌝ }
+{
+    let n = frame.len() - 4;
+    is_number(&frame[n..n + 2], sum(&frame[..n]))
+}
+
+// The SC is '@@'.
+pub fn is_sum_off(frame: &[u8]) -> bool
+    requires { ⌜ 10 ≤ length (now frame) ⌝ }
+    ensures { λ r. ⌜ r ≡ sumOff (now (frame .entry)) ⌝ }
+{
+    let n = frame.len() - 4;
+    if frame[n] != 0x40 {
+        return false;
+    }
+    frame[n + 1] == 0x40
+}
+
+// Test 7, passed: the SC is true or '@@'.
+pub fn passes_sum(frame: &[u8]) -> bool
+    requires { ⌜ 10 ≤ length (now frame) ⌝ }
+    ensures { λ r. ⌜ r ≡ sumPasses (now (frame .entry)) ⌝ }
+{
+    if is_sum_off(frame) {
+        return true;
+    }
+    is_sum_true(frame)
+}
+
+// Test 8, passed: the station is digits and is this one.
+pub fn is_ours(frame: &[u8], station: u8) -> bool
+    requires { ⌜ 10 ≤ length (now frame) ⌝ }
+    ensures { λ r. ⌜ r ≡ stationPasses station (now (frame .entry)) ⌝ }
+{
+    is_number(&frame[1..3], station)
+}

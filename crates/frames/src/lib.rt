@@ -1,0 +1,5 @@
+// Frames (document 01, "Frame" and "Finding a frame in the received bytes").
+pub mod checks; // tests 6, 7 and 8 of the refusal table
+pub mod finder; // finding a frame in the received bytes
+pub mod replies; // closing a reply, and the error reply
+pub mod sums; // the running sum

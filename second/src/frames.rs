@@ -1,0 +1,197 @@
+//! Frames: finding them, their sum, and the tests 6, 7 and 8 (document 01, "Finding a frame" and
+//! "Frame"; document 000, sections 3 and 4-3-1).
+
+use crate::digits;
+
+/// Longest frame the board receives (000, 4-3: "maximum receivable size ... 1023 bytes").
+pub const LONGEST_FRAME: usize = 1_023;
+/// Longest reply it sends (000, 4-3: "maximum transmittable size is 1024 bytes").
+pub const LONGEST_REPLY: usize = 1_024;
+/// Header, station, message ID, SC, CR and LF without any content.
+pub const SHORTEST_FRAME: usize = 10;
+
+const END: &[u8] = b"\r\n";
+
+/// What the finder answers; `used` and `drop` count bytes from the front of the received ones.
+#[derive(Clone, Copy, Debug, PartialEq, Eq)]
+pub enum Found {
+    /// A frame of `length` bytes stands at `start`; it ends where `used` ends.
+    Frame { start: usize, length: usize, used: usize },
+    /// No '!' at all.
+    Nothing { drop: usize },
+    /// A '!' whose frame may still end.
+    Wait { drop: usize },
+    /// A '!' followed by too many bytes without CR LF.
+    TooLong { drop: usize },
+}
+
+/// Finds the first frame (document 01, "Finding a frame in the received bytes").
+pub fn find(received: &[u8]) -> Found {
+    let Some(start) = received.iter().position(|&byte| byte == b'!') else {
+        return Found::Nothing { drop: received.len() };
+    };
+    let from_it = &received[start..];
+    let looked_at = &from_it[..from_it.len().min(LONGEST_FRAME)];
+    match looked_at.windows(END.len()).position(|pair| pair == END) {
+        Some(pair) => {
+            let length = pair + END.len();
+            Found::Frame { start, length, used: start + length }
+        }
+        // Only the '!' goes: a true frame may begin inside the overlong run.
+        None if looked_at.len() == LONGEST_FRAME => Found::TooLong { drop: start + 1 },
+        None => Found::Wait { drop: start },
+    }
+}
+
+/// Sum of all bytes (000, section 3: "the total sum").
+pub fn sum(bytes: &[u8]) -> u64 {
+    bytes.iter().map(|&byte| u64::from(byte)).sum()
+}
+
+/// SC of the bytes before it: the low byte of their sum as two digits.
+pub fn sc(before: &[u8]) -> Vec<u8> {
+    let mut text = Vec::new();
+    digits::push(&mut text, (sum(before) % 256) as u32, 2);
+    text
+}
+
+/// Test 6: '!' first, CR LF last, 10 to 1,023 bytes.
+pub fn has_shape(frame: &[u8]) -> bool {
+    (SHORTEST_FRAME..=LONGEST_FRAME).contains(&frame.len())
+        && frame.starts_with(b"!")
+        && frame.ends_with(END)
+}
+
+/// Test 7, of a frame that passed 6: SC is true, or '@@' and then not checked.
+pub(crate) fn has_good_sc(frame: &[u8]) -> bool {
+    let (before, end) = frame.split_at(frame.len() - 4);
+    let given = &end[..2];
+    given == b"@@" || given == sc(before)
+}
+
+/// Test 8, of a frame that passed 6: two digits with the value of the station.
+pub(crate) fn has_station(frame: &[u8], station: u8) -> bool {
+    digits::number(&frame[1..3]) == Some(u32::from(station))
+}
+
+/// Message ID and content of a frame that passed 6.
+pub(crate) fn id_and_content(frame: &[u8]) -> (&[u8], &[u8]) {
+    frame[3..frame.len() - 4].split_at(3)
+}
+
+/// Adds SC, CR and LF; every reply carries a true SC (document 01, "Frame").
+pub fn closed(mut text: Vec<u8>) -> Vec<u8> {
+    let sc = sc(&text);
+    text.extend(sc);
+    text.extend(END);
+    text
+}
+
+/// Normal reply: '#', station, the command's message ID, content (000, section 3 (2)).
+pub fn normal_reply(station: u8, id: &[u8], content: &[u8]) -> Vec<u8> {
+    let mut text = vec![b'#'];
+    digits::push(&mut text, u32::from(station), 2);
+    text.extend(id);
+    text.extend(content);
+    closed(text)
+}
+
+/// Error reply, ten bytes (000, 4-3-1): 101 is written '101', as the bench listing shows.
+pub fn error_reply(station: u8, number: u16) -> Vec<u8> {
+    let mut text = vec![b'&'];
+    digits::push(&mut text, u32::from(station), 2);
+    text.extend(format!("{number:03}").bytes());
+    closed(text)
+}
+
+#[cfg(test)]
+mod tests {
+    use super::*;
+
+    #[test]
+    fn sums_of_document_000() {
+        // Section 3, and "General Rules" 1.3.
+        assert_eq!(sum(b"!99209001005"), 0x254);
+        assert_eq!(sc(b"!99209001005"), b"54");
+        assert_eq!(sum(b"!99209000032"), 0x253);
+        assert_eq!(sc(b"!99209000032"), b"53");
+    }
+
+    #[test]
+    fn sc_is_the_low_byte_as_two_digits() {
+        assert_eq!(sc(b""), b"00");
+        assert_eq!(sc(&[0x05]), b"05");
+        assert_eq!(sc(&[0xFF, 0x01]), b"00");
+        assert_eq!(sc(&[0xFF, 0xFF]), b"FE");
+    }
+
+    #[test]
+    fn finder_skips_to_the_first_mark() {
+        assert_eq!(find(b""), Found::Nothing { drop: 0 });
+        assert_eq!(find(b"#99\r\n"), Found::Nothing { drop: 5 });
+        assert_eq!(find(b"!"), Found::Wait { drop: 0 });
+        assert_eq!(find(b"\r\n!99\r"), Found::Wait { drop: 2 });
+        assert_eq!(find(b"!\r\n"), Found::Frame { start: 0, length: 3, used: 3 });
+        assert_eq!(find(b"ab!9!9\r\n!\r\n"), Found::Frame { start: 2, length: 6, used: 8 });
+        assert_eq!(find(b"!\n\r\r\n"), Found::Frame { start: 0, length: 5, used: 5 });
+    }
+
+    #[test]
+    fn finder_looks_at_1023_bytes_and_no_more() {
+        let run = |spaces: usize, end: &[u8]| [b"xy!", vec![b' '; spaces].as_slice(), end].concat();
+        assert_eq!(find(&run(1_021, b"")), Found::Wait { drop: 2 });
+        assert_eq!(find(&run(1_022, b"")), Found::TooLong { drop: 3 });
+        assert_eq!(
+            find(&run(1_020, b"\r\n")),
+            Found::Frame { start: 2, length: 1_023, used: 1_025 }
+        );
+        // The pair must stand inside the 1,023 bytes whole.
+        assert_eq!(find(&run(1_021, b"\r")), Found::TooLong { drop: 3 });
+        assert_eq!(find(&run(1_021, b"\r\n")), Found::TooLong { drop: 3 });
+    }
+
+    #[test]
+    fn test_six_asks_for_marks_and_length() {
+        assert!(has_shape(b"!99208AB\r\n"));
+        assert!(!has_shape(b""));
+        assert!(!has_shape(b"!99208A\r\n"));
+        assert!(!has_shape(b"#99208AB\r\n"));
+        assert!(!has_shape(b"!99208AB\n\r"));
+        assert!(!has_shape(b"!99208AB\rX"));
+        let of_length = |length: usize| [b"!", vec![b'0'; length - 3].as_slice(), END].concat();
+        assert!(has_shape(&of_length(1_023)));
+        assert!(!has_shape(&of_length(1_024)));
+        // A pair inside is not this test's concern.
+        assert!(has_shape(b"!99200\r\n01234567AB\r\n"));
+    }
+
+    #[test]
+    fn test_seven_wants_the_true_capitals_or_the_two_marks() {
+        assert!(has_good_sc(b"!9920900100554\r\n"));
+        assert!(has_good_sc(b"!99209001005@@\r\n"));
+        assert!(!has_good_sc(b"!9920900100555\r\n"));
+        assert!(!has_good_sc(b"!992090010055@\r\n"));
+        assert!(!has_good_sc(b"!99209001005@4\r\n"));
+    }
+
+    #[test]
+    fn test_eight_reads_the_station_as_digits() {
+        assert!(has_station(b"!99208@@\r\n", 0x99));
+        assert!(!has_station(b"!99208@@\r\n", 99));
+        assert!(has_station(b"!0F208@@\r\n", 15));
+        assert!(!has_station(b"!0f208@@\r\n", 15));
+        assert!(!has_station(b"! F208@@\r\n", 15));
+    }
+
+    #[test]
+    fn parts_and_replies() {
+        let (id, content) = id_and_content(b"!9920900100554\r\n");
+        assert_eq!((id, content), (&b"209"[..], &b"001005"[..]));
+        let (id, content) = id_and_content(b"!99208@@\r\n");
+        assert_eq!((id, content), (&b"208"[..], &b""[..]));
+        assert_eq!(normal_reply(0x99, b"200", b"0012345678"), b"#9920000123456782B\r\n");
+        assert_eq!(error_reply(0x99, 101), b"&991012A\r\n");
+        assert_eq!(error_reply(0x0A, 107).len(), 10);
+        assert!(error_reply(0x0A, 107).starts_with(b"&0A107"));
+    }
+}

@@ -1,0 +1,18 @@
+//! The independent second program: the board of document 01 as a plain model on byte vectors.
+//!
+//! Written from document 01 (`01-scope.md`) and document 000 (IAI's X-SEL Format B specification)
+//! alone, to judge the product. The public calls are `frames::find`, `link::answer` and
+//! `link::step_back`; they take areas of any length and never panic.
+
+pub mod areas;
+pub mod bench;
+pub mod digits;
+pub mod frames;
+pub mod journal;
+pub mod link;
+pub mod messages;
+mod replies;
+
+pub use areas::Board;
+pub use frames::Found;
+pub use link::Outcome;

@@ -1,0 +1,333 @@
+//! What a frame asks, and the refusals 101 to 107 in their order (document 01, "Each message" and
+//! "Refusal numbers"; layouts of commands from document 000, 4-3-2 to 4-3-30).
+
+use crate::areas::{axes_of, Area, Point, Run, AXES};
+use crate::digits::{all_digits, Fields};
+use crate::frames;
+
+/// What the content of a command asks, its layout being right.
+#[derive(Clone, Debug, PartialEq, Eq)]
+pub enum Asked {
+    TestCall { text: Vec<u8> },
+    PointCount,
+    PointList { run: Run },
+    ColumnQuery { program: u32, run: Run },
+    AxisStatus { pattern: u8 },
+    PointWrite { run: Run, points: Vec<Point> },
+    PointClear { run: Run },
+    ColumnWrite { program: u32, run: Run, bytes: Vec<u8> },
+}
+
+/// Reads a frame that passed tests 6 to 8; Err is the refusal, the earliest that holds.
+pub(crate) fn ask(frame: &[u8], points: usize, fitted: u8) -> Result<Asked, u16> {
+    let (id, content) = frames::id_and_content(frame);
+    let layout = layout_of(id).ok_or(101u16)?;
+    if id != b"200" && !all_digits(content) {
+        return Err(102);
+    }
+    let asked = layout(content).ok_or(103u16)?;
+    if asked.program().is_some_and(|program| program != 0) {
+        return Err(104);
+    }
+    if asked.run().is_some_and(|run| run.count == 0) {
+        return Err(105);
+    }
+    if asked.run().is_some_and(|run| !run.is_held(points)) {
+        return Err(106);
+    }
+    if asked.patterns().any(|pattern| pattern == 0 || pattern & !fitted != 0) {
+        return Err(107);
+    }
+    Ok(asked)
+}
+
+/// Reads the content of one message; None when its length isn't this message's.
+type Layout = fn(&[u8]) -> Option<Asked>;
+
+/// The layout of a known message; any other ID bytes are an unknown message.
+fn layout_of(id: &[u8]) -> Option<Layout> {
+    match id {
+        b"200" => Some(test_call),
+        b"208" => Some(point_count),
+        b"209" => Some(|content| Some(Asked::PointList { run: points_named(content)? })),
+        b"210" => Some(column_query),
+        b"212" => Some(axis_status),
+        b"244" => Some(point_write),
+        b"246" => Some(|content| Some(Asked::PointClear { run: points_named(content)? })),
+        b"24E" => Some(column_write),
+        _ => None,
+    }
+}
+
+/// 4-3-2: an arbitrary string of ten bytes, digits or not.
+fn test_call(content: &[u8]) -> Option<Asked> {
+    (content.len() == 10).then(|| Asked::TestCall { text: content.to_vec() })
+}
+
+/// 4-3-4: no content.
+fn point_count(content: &[u8]) -> Option<Asked> {
+    content.is_empty().then_some(Asked::PointCount)
+}
+
+/// 4-3-5 and 4-3-25: head number 3 digits, number of records 3.
+fn points_named(content: &[u8]) -> Option<Run> {
+    let mut fields = Fields::of(content);
+    let run = take_run(&mut fields, Area::Points, 3)?;
+    fields.end()?;
+    Some(run)
+}
+
+/// 4-3-11: program number 2 digits, start 3, count 2.
+fn column_query(content: &[u8]) -> Option<Asked> {
+    let mut fields = Fields::of(content);
+    let program = fields.take(2)?;
+    let run = take_run(&mut fields, Area::Columns, 2)?;
+    fields.end()?;
+    Some(Asked::ColumnQuery { program, run })
+}
+
+/// 4-3-12: axis pattern 2 digits.
+fn axis_status(content: &[u8]) -> Option<Asked> {
+    let mut fields = Fields::of(content);
+    let pattern = fields.take(2)? as u8;
+    fields.end()?;
+    Some(Asked::AxisStatus { pattern })
+}
+
+/// 4-3-23: start 3 digits, count 3, then exactly count points.
+fn point_write(content: &[u8]) -> Option<Asked> {
+    let mut fields = Fields::of(content);
+    let run = take_run(&mut fields, Area::Points, 3)?;
+    let mut points = Vec::new();
+    for _ in 0..run.count {
+        points.push(take_point(&mut fields)?);
+    }
+    fields.end()?;
+    Some(Asked::PointWrite { run, points })
+}
+
+/// 4-3-30: program number 2 digits, start 3, count 2, then two digits for each column.
+fn column_write(content: &[u8]) -> Option<Asked> {
+    let mut fields = Fields::of(content);
+    let program = fields.take(2)?;
+    let run = take_run(&mut fields, Area::Columns, 2)?;
+    let mut bytes = Vec::new();
+    for _ in 0..run.count {
+        bytes.push(fields.take(2)? as u8);
+    }
+    fields.end()?;
+    Some(Asked::ColumnWrite { program, run, bytes })
+}
+
+/// A start number of 3 digits and a count.
+fn take_run(fields: &mut Fields, area: Area, count_width: usize) -> Option<Run> {
+    let start = fields.take(3)? as usize;
+    let count = fields.take(count_width)? as usize;
+    Some(Run { area, start, count })
+}
+
+/// One point; its own pattern says how many positions follow, and those of absent axes are 0.
+fn take_point(fields: &mut Fields) -> Option<Point> {
+    let pattern = fields.take(2)? as u8;
+    let mut point = Point {
+        pattern,
+        acceleration: fields.take(4)? as u16,
+        deceleration: fields.take(4)? as u16,
+        speed: fields.take(4)? as u16,
+        positions: [0; AXES],
+    };
+    for axis in axes_of(pattern) {
+        // Two's complement: the same 32 bits with a sign.
+        point.positions[axis] = fields.take(8)? as i32;
+    }
+    Some(point)
+}
+
+impl Asked {
+    /// The program number, in the two messages that have one.
+    fn program(&self) -> Option<u32> {
+        match self {
+            Asked::ColumnQuery { program, .. } | Asked::ColumnWrite { program, .. } => {
+                Some(*program)
+            }
+            _ => None,
+        }
+    }
+
+    /// The numbers named, in the five messages that name some.
+    fn run(&self) -> Option<Run> {
+        match self {
+            Asked::PointList { run }
+            | Asked::ColumnQuery { run, .. }
+            | Asked::PointWrite { run, .. }
+            | Asked::PointClear { run }
+            | Asked::ColumnWrite { run, .. } => Some(*run),
+            Asked::TestCall { .. } | Asked::PointCount | Asked::AxisStatus { .. } => None,
+        }
+    }
+
+    /// The patterns to be stored; a pattern only asked for, as in 212H, may be any.
+    fn patterns(&self) -> impl Iterator<Item = u8> + '_ {
+        let points = match self {
+            Asked::PointWrite { points, .. } => points.as_slice(),
+            _ => &[],
+        };
+        points.iter().map(|point| point.pattern)
+    }
+}
+
+#[cfg(test)]
+mod tests {
+    use super::*;
+
+    /// What ID and content ask of a board with 500 points and axes 1 to 4 fitted.
+    fn asked(id_and_content: &str) -> Result<Asked, u16> {
+        let frame = ["!99", id_and_content, "@@\r\n"].concat();
+        ask(frame.as_bytes(), 500, 0x0F)
+    }
+
+    fn refusal(id_and_content: &str) -> Option<u16> {
+        asked(id_and_content).err()
+    }
+
+    fn run(area: Area, start: usize, count: usize) -> Run {
+        Run { area, start, count }
+    }
+
+    #[test]
+    fn the_eight_messages_are_read() {
+        assert_eq!(asked("200any bytes!"), Ok(Asked::TestCall { text: b"any bytes!".to_vec() }));
+        assert_eq!(asked("208"), Ok(Asked::PointCount));
+        let list = Asked::PointList { run: run(Area::Points, 16, 5) };
+        assert_eq!(asked("209010005"), Ok(list));
+        let query = Asked::ColumnQuery { program: 0, run: run(Area::Columns, 300, 4) };
+        assert_eq!(asked("2100012C04"), Ok(query));
+        assert_eq!(asked("212C3"), Ok(Asked::AxisStatus { pattern: 0xC3 }));
+        let clear = Asked::PointClear { run: run(Area::Points, 1, 500) };
+        assert_eq!(asked("2460011F4"), Ok(clear));
+        let bytes = vec![0x00, 0x47];
+        let write = Asked::ColumnWrite { program: 0, run: run(Area::Columns, 998, 2), bytes };
+        assert_eq!(asked("24E003E6020047"), Ok(write));
+    }
+
+    #[test]
+    fn each_point_has_the_length_of_its_own_pattern() {
+        let first = "01001E001F006480000000";
+        let second = "0A000100020003FFFFFFFF00000001";
+        let Ok(Asked::PointWrite { points, .. }) = asked(&["244002002", first, second].concat())
+        else {
+            panic!("not read as a point write");
+        };
+        assert_eq!(points.len(), 2);
+        assert_eq!(points[0].positions, [i32::MIN, 0, 0, 0, 0, 0, 0, 0]);
+        assert_eq!(
+            (points[0].acceleration, points[0].deceleration, points[0].speed),
+            (30, 31, 100)
+        );
+        assert_eq!(points[1].pattern, 0x0A);
+        assert_eq!(points[1].positions, [0, -1, 0, 1, 0, 0, 0, 0]);
+        assert_eq!((points[1].acceleration, points[1].deceleration, points[1].speed), (1, 2, 3));
+        // Lengths that only the first point's pattern would make right.
+        let wrong = ["244002002", first, &second[..22]].concat();
+        assert_eq!(refusal(&wrong), Some(103));
+    }
+
+    #[test]
+    fn other_ids_are_unknown_whatever_follows() {
+        for id in ["299", "201", "245", "24e", "2  ", "000", "20A", "\r\n2"] {
+            assert_eq!(refusal(id), Some(101));
+            assert_eq!(refusal(&[id, "xyz"].concat()), Some(101));
+        }
+    }
+
+    #[test]
+    fn content_bytes_must_be_digits_before_all_else() {
+        let wrong =
+            ["208x", "20900100a", "2100112c04", "212 1", "24400x", "246000 00", "24E0112B0141 "];
+        for frame in wrong {
+            assert_eq!(refusal(frame), Some(102), "{frame}");
+        }
+    }
+
+    #[test]
+    fn contents_have_their_messages_length() {
+        let wrong = [
+            "200",
+            "200123456789",
+            "20012345678901",
+            "2080",
+            "209",
+            "20900100",
+            "2090010050",
+            "210",
+            "2100012C0",
+            "2100012C040",
+            "212",
+            "2121",
+            "212011",
+            "244",
+            "24400100",
+            "2440010010",
+            "246",
+            "24600100",
+            "2460010010",
+            "24E",
+            "24E0012C0",
+            "24E0012C02004",
+            "24E0012C020",
+            "24E0012C0200",
+            "24E0012C02000000",
+            "24E0012C0000",
+        ];
+        for frame in wrong {
+            assert_eq!(refusal(frame), Some(103), "{frame}");
+        }
+    }
+
+    #[test]
+    fn a_point_write_has_exactly_count_points() {
+        let point = "01001E001E006400000000";
+        assert_eq!(refusal(&["244001001", point].concat()), None);
+        assert_eq!(refusal(&["244001002", point].concat()), Some(103));
+        assert_eq!(refusal(&["244001001", point, "0"].concat()), Some(103));
+        assert_eq!(refusal(&["244001001", point, point].concat()), Some(103));
+        assert_eq!(refusal(&["244001001", &point[1..]].concat()), Some(103));
+        assert_eq!(refusal(&["244001000", point].concat()), Some(103));
+        assert_eq!(refusal(&["244FFFFFF", point].concat()), Some(103));
+        assert_eq!(refusal("244001000"), Some(105));
+        assert_eq!(refusal("244000000"), Some(105));
+    }
+
+    #[test]
+    fn programs_counts_and_numbers() {
+        assert_eq!(refusal("2100112C00"), Some(104));
+        assert_eq!(refusal("24E0112C00"), Some(104));
+        for frame in ["209001000", "2100000000", "246FFF000", "24E0000000", "209000000"] {
+            assert_eq!(refusal(frame), Some(105), "{frame}");
+        }
+        for frame in ["209000001", "2091F5001", "2091F4002", "209FFFFFF", "246000001", "2460011F5"]
+        {
+            assert_eq!(refusal(frame), Some(106), "{frame}");
+        }
+        for frame in ["2100012B01", "210003E801", "210003E702", "24E0012B0100", "24E003E7020000"] {
+            assert_eq!(refusal(frame), Some(106), "{frame}");
+        }
+        assert_eq!(refusal("2091F4001"), None);
+        assert_eq!(refusal("210003E701"), None);
+    }
+
+    #[test]
+    fn stored_patterns_are_fitted_and_not_00() {
+        let none = "00001E001E0064";
+        let fifth = "10001E001E006400000000";
+        let good = "01001E001E006400000000";
+        assert_eq!(refusal(&["244001001", none].concat()), Some(107));
+        assert_eq!(refusal(&["244001001", fifth].concat()), Some(107));
+        assert_eq!(refusal(&["244001003", good, good, fifth].concat()), Some(107));
+        assert_eq!(refusal(&["244001003", good, none, good].concat()), Some(107));
+        assert_eq!(refusal(&["2441F4002", good, none].concat()), Some(106));
+        // Asking for an unfitted axis, or for none, is no fault.
+        assert_eq!(refusal("21210"), None);
+        assert_eq!(refusal("21200"), None);
+    }
+}

@@ -1,0 +1,179 @@
+//! Contents of normal replies that carry data (document 000, the "Normal response" tables).
+
+use crate::areas::{axes_of, Area, Axis, Board, Point, Run, SLOT};
+use crate::digits::push;
+use crate::frames::{LONGEST_REPLY, SHORTEST_FRAME};
+
+/// 4-3-4: the number of effective points, 3 digits.
+pub(crate) fn point_count(board: &Board) -> Vec<u8> {
+    let effective = board.points.chunks_exact(SLOT).filter(|slot| slot[0] != 0).count();
+    let mut content = Vec::new();
+    push(&mut content, effective as u32, 3);
+    content
+}
+
+/// 4-3-5: number listed 3 digits, then the leading effective points that fit into the reply.
+pub(crate) fn point_list(board: &Board, run: &Run) -> Vec<u8> {
+    let room = LONGEST_REPLY - SHORTEST_FRAME - 3;
+    let slots = board.points[run.place()].chunks_exact(SLOT);
+    let mut listed = 0;
+    let mut list = Vec::new();
+    for (number, slot) in (run.start..).zip(slots).filter(|(_, slot)| slot[0] != 0) {
+        let entry = listed_point(number, &Point::from_slot(slot));
+        // The first that doesn't fit ends the list: only leading ones are given.
+        if list.len() + entry.len() > room {
+            break;
+        }
+        list.extend(entry);
+        listed += 1;
+    }
+    let mut content = Vec::new();
+    push(&mut content, listed, 3);
+    content.extend(list);
+    content
+}
+
+/// 4-3-5 (*1): number 3, pattern 2, acceleration, deceleration, speed 4 each, 8 for each axis.
+fn listed_point(number: usize, point: &Point) -> Vec<u8> {
+    let mut text = Vec::new();
+    push(&mut text, number as u32, 3);
+    push(&mut text, u32::from(point.pattern), 2);
+    for pair in [point.acceleration, point.deceleration, point.speed] {
+        push(&mut text, u32::from(pair), 4);
+    }
+    for axis in axes_of(point.pattern) {
+        push(&mut text, point.positions[axis] as u32, 8);
+    }
+    text
+}
+
+/// 4-3-11: the command's fields again, then two digits for each column.
+pub(crate) fn columns(board: &Board, program: u32, run: &Run) -> Vec<u8> {
+    let mut content = Vec::new();
+    push(&mut content, program, 2);
+    push(&mut content, run.start as u32, 3);
+    push(&mut content, run.count as u32, 2);
+    for &byte in &board.area(Area::Columns)[run.place()] {
+        push(&mut content, u32::from(byte), 2);
+    }
+    content
+}
+
+/// 4-3-12: the asked pattern without unfitted axes, then 16 digits for each axis left.
+pub(crate) fn axis_status(records: &[Axis], pattern: u8) -> Vec<u8> {
+    let mut content = Vec::new();
+    push(&mut content, u32::from(pattern), 2);
+    for axis in axes_of(pattern).map(|axis| &records[axis]) {
+        push(&mut content, u32::from(axis.status), 2);
+        push(&mut content, u32::from(axis.sensor), 1);
+        push(&mut content, u32::from(axis.error), 3);
+        push(&mut content, u32::from(axis.encoder), 2);
+        push(&mut content, axis.position as u32, 8);
+    }
+    content
+}
+
+/// 4-3-23: start and count, 3 digits each.
+pub(crate) fn points_written(run: &Run) -> Vec<u8> {
+    let mut content = Vec::new();
+    push(&mut content, run.start as u32, 3);
+    push(&mut content, run.count as u32, 3);
+    content
+}
+
+#[cfg(test)]
+mod tests {
+    use super::*;
+
+    fn all_of(points: usize) -> Run {
+        Run { area: Area::Points, start: 1, count: points }
+    }
+
+    /// A board whose slots have these patterns, first point first.
+    fn board_of(patterns: &[u8]) -> Board {
+        let mut board = Board::fresh(patterns.len(), 0);
+        for (slot, &pattern) in board.points.chunks_exact_mut(SLOT).zip(patterns) {
+            slot[0] = pattern;
+        }
+        board
+    }
+
+    #[test]
+    fn counts_slots_with_a_pattern() {
+        assert_eq!(point_count(&Board::fresh(1_500, 0)), b"000");
+        assert_eq!(point_count(&board_of(&[1, 0, 0x80, 0])), b"002");
+        assert_eq!(point_count(&board_of(&[1; 1_500])), b"5DC");
+        let mut spoiled = Board::fresh(2, 0);
+        spoiled.points[1..40].fill(7);
+        assert_eq!(point_count(&spoiled), b"000");
+    }
+
+    #[test]
+    fn lists_each_effective_point_with_its_number() {
+        let mut board = Board::fresh(20, 0);
+        let point = Point {
+            pattern: 0x05,
+            acceleration: 30,
+            deceleration: 31,
+            speed: 100,
+            positions: [50_000, 9, -1, 0, 0, 0, 0, 0],
+        };
+        board.points[15 * SLOT..16 * SLOT].copy_from_slice(&point.to_slot());
+        let expected = b"00101005001E001F00640000C350FFFFFFFF";
+        assert_eq!(point_list(&board, &all_of(20)), expected);
+        let after = Run { area: Area::Points, start: 17, count: 4 };
+        assert_eq!(point_list(&board, &after), b"000");
+    }
+
+    #[test]
+    fn lists_what_keeps_the_reply_within_1024_bytes() {
+        // 40 one-axis points of 25 digits, 12 eight-axis points of 81 (4-3-5: "Max 81 bytes").
+        assert_eq!(point_list(&board_of(&[1; 50]), &all_of(50)).len(), 3 + 40 * 25);
+        assert_eq!(point_list(&board_of(&[0xFF; 50]), &all_of(50)).len(), 3 + 12 * 81);
+        // 35 points with 52 axes make 1,024 bytes exactly; with 53 axes the 35th is left out.
+        let mut patterns = [0x01; 36];
+        patterns[..17].fill(0x03);
+        assert_eq!(point_list(&board_of(&patterns), &all_of(36)).len(), 1_024 - 10);
+        patterns[17] = 0x03;
+        let shorter = point_list(&board_of(&patterns), &all_of(36));
+        assert_eq!((&shorter[..3], shorter.len()), (&b"022"[..], 3 + 34 * 17 + 52 * 8));
+        // 36 points with 50 axes would make 1,025.
+        let mut patterns = [0x01; 36];
+        patterns[..14].fill(0x03);
+        let shorter = point_list(&board_of(&patterns), &all_of(36));
+        assert_eq!((&shorter[..3], shorter.len()), (&b"023"[..], 3 + 35 * 17 + 49 * 8));
+    }
+
+    #[test]
+    fn a_point_that_does_not_fit_ends_the_list() {
+        // 12 of 81 leave 39 digits: a second long point doesn't fit, a short one after it would.
+        let mut patterns = [0xFF; 14];
+        patterns[13] = 0x01;
+        let content = point_list(&board_of(&patterns), &all_of(14));
+        assert_eq!((&content[..3], content.len()), (&b"00C"[..], 3 + 12 * 81));
+        patterns[12] = 0x00;
+        let content = point_list(&board_of(&patterns), &all_of(14));
+        assert_eq!((&content[..3], content.len()), (&b"00D"[..], 3 + 12 * 81 + 25));
+    }
+
+    #[test]
+    fn columns_keep_every_digit() {
+        let mut board = Board::fresh(1, 0);
+        board.columns[..4].copy_from_slice(&[0x00, 0x30, 0x00, 0x47]);
+        let run = Run { area: Area::Columns, start: 300, count: 4 };
+        assert_eq!(columns(&board, 0, &run), b"0012C0400300047");
+    }
+
+    #[test]
+    fn axes_are_given_lowest_first() {
+        let zero = Axis { status: 0, sensor: 0, error: 0, encoder: 0, position: 0 };
+        let mut records = vec![zero; 8];
+        records[0] =
+            Axis { status: 0x1C, sensor: 0x4, error: 0x0A5, encoder: 0x02, position: 50_000 };
+        records[7] = Axis { status: 0xFF, sensor: 0xF, error: 0xFFF, encoder: 0xFE, position: -1 };
+        let expected = b"811C40A5020000C350FFFFFFFEFFFFFFFF";
+        assert_eq!(axis_status(&records, 0x81), expected);
+        assert_eq!(axis_status(&records, 0), b"00");
+        assert_eq!(axis_status(&records, 0xFF).len(), 140 - 10);
+    }
+}

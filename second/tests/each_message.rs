@@ -1,0 +1,235 @@
+//! The eight messages: what each does and its reply byte for byte (document 01, "Each message";
+//! document 000, sections 4-3-2 to 4-3-30).
+
+use second::areas::SLOT;
+use second::bench::Bench;
+use second::Board;
+
+/// Twenty points, the reply area full of a byte that no reply has.
+fn bench() -> Bench {
+    let mut bench = Bench::fresh(20, 2_000);
+    bench.reply = vec![0xEE; 1_100];
+    bench
+}
+
+/// The reply to an accepted command, without SC, CR and LF, whose sum is checked.
+fn reply(bench: &mut Bench, id_and_content: &str) -> String {
+    let (number, reply) = bench.ask(id_and_content);
+    assert_eq!(number, 0, "{id_and_content}");
+    assert!(bench.reply[reply.len()..].iter().all(|&byte| byte == 0xEE));
+    bench.reply.fill(0xEE);
+    let (text, end) = reply.split_at(reply.len() - 4);
+    let sum: u32 = text.iter().map(|&byte| u32::from(byte)).sum();
+    assert_eq!(String::from_utf8_lossy(end), format!("{:02X}\r\n", sum % 256));
+    String::from_utf8_lossy(text).into_owned()
+}
+
+#[test]
+fn test_call_returns_ten_bytes_unchanged() {
+    let mut bench = bench();
+    assert_eq!(reply(&mut bench, "2000012345678"), "#992000012345678");
+    assert_eq!(reply(&mut bench, "200aZ !@#\r\n. "), "#99200aZ !@#\r\n. ");
+    let any = second::bench::command(
+        0x99,
+        &[b"200", &[0u8, 1, 127, 128, 200, 255, 13, 10, 33, 64][..]].concat(),
+    );
+    let (number, reply) = bench.hand(&any);
+    assert_eq!((number, reply.len()), (0, 20));
+    assert_eq!(reply[6..16], any[6..16]);
+    assert_eq!(bench.board, Board::fresh(20, 2_000));
+}
+
+#[test]
+fn number_of_effective_points() {
+    let mut bench = bench();
+    assert_eq!(bench.ask("208").1, b"#99208000BF\r\n"); // 13 bytes (4-3-4)
+    reply(&mut bench, "24400300201000000000000000000000100000000000000000000");
+    assert_eq!(reply(&mut bench, "208"), "#99208002");
+    reply(&mut bench, "246003001");
+    assert_eq!(reply(&mut bench, "208"), "#99208001");
+}
+
+#[test]
+fn effective_points_are_listed_with_their_numbers() {
+    let mut bench = bench();
+    assert_eq!(reply(&mut bench, "209001014"), "#99209000");
+    reply(&mut bench, "24401000101001E001F0064FFF9E580");
+    reply(&mut bench, "24400200182FFFF0001000280000000000F4240");
+    let second = "00282FFFF0001000280000000000F4240";
+    let sixteenth = "01001001E001F0064FFF9E580";
+    assert_eq!(reply(&mut bench, "209001014"), ["#99209002", second, sixteenth].concat());
+    assert_eq!(reply(&mut bench, "209003012"), ["#99209001", sixteenth].concat());
+    assert_eq!(reply(&mut bench, "20900200E"), ["#99209001", second].concat());
+    assert_eq!(reply(&mut bench, "209002001"), ["#99209001", second].concat());
+    assert_eq!(reply(&mut bench, "209011004"), "#99209000");
+}
+
+#[test]
+fn one_eight_axis_point_makes_94_bytes() {
+    // 4-3-5: "MAX 90" up to one record, then SC, CR, LF.
+    let mut bench = bench();
+    let positions = "0000000100000002000000030000000400000005000000060000000700000008";
+    reply(&mut bench, &["244001001FF000100020003", positions].concat());
+    let (number, reply) = bench.ask("209001014");
+    assert_eq!((number, reply.len()), (0, 94));
+    assert_eq!(reply[9..90], *["001FF000100020003", positions].concat().as_bytes());
+}
+
+#[test]
+fn a_long_list_is_cut_to_1024_bytes_even_in_a_larger_area() {
+    let mut bench = Bench::fresh(100, 65_536);
+    bench.reply = vec![0xEE; 10_000];
+    for slot in bench.board.points.chunks_mut(SLOT) {
+        slot[0] = 0x10;
+    }
+    let (number, reply) = bench.ask("209001064");
+    assert_eq!((number, reply.len()), (0, 13 + 40 * 25));
+    assert_eq!(reply[..12], *b"#99209028001");
+    assert_eq!(reply[9 + 39 * 25..9 + 39 * 25 + 3], *b"028");
+    // 35 points with 52 axes: exactly 1,024 bytes, to the end of the least reply area.
+    for slot in bench.board.points[..17 * SLOT].chunks_mut(SLOT) {
+        slot[0] = 0x30;
+    }
+    bench.reply.truncate(1_024);
+    let (number, reply) = bench.ask("209001064");
+    assert_eq!((number, reply.len(), &reply[..9]), (0, 1_024, &b"#99209023"[..]));
+}
+
+#[test]
+fn spoiled_slots_are_listed_as_they_are_stored() {
+    let mut bench = bench();
+    bench.fitted = 0x01;
+    bench.board.points[..SLOT].fill(0x12);
+    let expected = ["#9920900100112", "1212", "1212", "1212", "12121212", "12121212"].concat();
+    assert_eq!(reply(&mut bench, "209001001"), expected);
+    assert_eq!(reply(&mut bench, "208"), "#99208001");
+}
+
+#[test]
+fn string_query_repeats_and_adds_two_digits_a_column() {
+    let mut bench = bench();
+    for (at, column) in bench.board.columns.iter_mut().enumerate() {
+        *column = at as u8;
+    }
+    assert_eq!(reply(&mut bench, "2100012C03"), "#992100012C03000102");
+    assert_eq!(reply(&mut bench, "2100023001"), "#992100023001".to_string() + "04");
+    assert_eq!(reply(&mut bench, "210003E701"), "#99210003E701BB");
+    let (number, longest) = bench.ask("2100012CFF");
+    assert_eq!((number, longest.len()), (0, 527)); // 4-3-11: "MAX 527"
+    assert_eq!(longest[521..523], *b"FE");
+}
+
+#[test]
+fn axis_status_leaves_unfitted_axes_out() {
+    let mut bench = bench();
+    for (axis, record) in bench.axes.chunks_mut(9).enumerate() {
+        let axis = axis as u8 + 1;
+        record.copy_from_slice(&[
+            0x10 + axis,
+            axis,
+            0x0A,
+            0xB0 + axis,
+            0xC0 + axis,
+            0xFF,
+            0xF9,
+            0xE5,
+            0x80,
+        ]);
+    }
+    let axis_1 = "111AB1C1FFF9E580";
+    let axis_3 = "133AB3C3FFF9E580";
+    let axis_8 = "188AB8C8FFF9E580";
+    assert_eq!(reply(&mut bench, "21285"), ["#9921285", axis_1, axis_3, axis_8].concat());
+    bench.fitted = 0x84;
+    assert_eq!(reply(&mut bench, "21287"), ["#9921284", axis_3, axis_8].concat());
+    assert_eq!(reply(&mut bench, "21203"), "#9921200");
+    assert_eq!(reply(&mut bench, "21200"), "#9921200");
+    bench.fitted = 0xFF;
+    assert_eq!(bench.ask("212FF").1.len(), 140);
+}
+
+#[test]
+fn point_write_rewrites_slots_whole() {
+    let mut bench = bench();
+    bench.board.points.fill(0x5A);
+    let points = "05001E001F00640000C350FFFFFFFF" // axes 1 and 3
+        .to_string()
+        + "80FFFFFFFEFFFD80000000"; // axis 8
+    assert_eq!(reply(&mut bench, &["244002002", &points].concat()), "#99244002002");
+    let mut second = vec![0x05, 0, 0, 0x1E, 0, 0x1F, 0, 0x64, 0, 0, 0xC3, 0x50, 0, 0, 0, 0];
+    second.extend([0xFF; 4]);
+    second.extend([0; 20]);
+    let mut third = vec![0x80, 0, 0xFF, 0xFF, 0xFF, 0xFE, 0xFF, 0xFD];
+    third.extend([0; 28]);
+    third.extend([0x80, 0, 0, 0]);
+    assert_eq!(bench.board.points[..40], [0x5A; 40]);
+    assert_eq!(bench.board.points[40..80], second);
+    assert_eq!(bench.board.points[80..120], third);
+    assert!(bench.board.points[120..].iter().all(|&byte| byte == 0x5A));
+}
+
+#[test]
+fn a_bulk_write_refused_at_its_ninth_point_stores_none() {
+    let mut bench = bench();
+    bench.fitted = 0x01;
+    let eight = "01001E001E006400000001".repeat(8);
+    let (number, _) = bench.ask(&["244001009", &eight, "02001E001E006400000001"].concat());
+    assert_eq!(number, 107);
+    assert_eq!(bench.board, Board::fresh(20, 2_000));
+}
+
+#[test]
+fn point_clear_zeroes_the_named_slots() {
+    let mut bench = bench();
+    bench.board.points.fill(0x5A);
+    assert_eq!(bench.ask("246002003"), (0, b"#9924631\r\n".to_vec())); // no content (4-3-25)
+    assert_eq!(bench.board.points[..40], [0x5A; 40]);
+    assert_eq!(bench.board.points[40..160], [0; 120]);
+    assert!(bench.board.points[160..].iter().all(|&byte| byte == 0x5A));
+    assert_eq!(bench.board.used, 125);
+    assert_eq!(bench.ask("246001014").0, 0);
+    assert!(bench.board.points.iter().all(|&byte| byte == 0));
+}
+
+#[test]
+fn string_change_sets_one_byte_a_column() {
+    let mut bench = bench();
+    bench.board.columns.fill(0x5A);
+    assert_eq!(bench.ask("24E0012C0430303437"), (0, b"#9924E40\r\n".to_vec())); // (4-3-30)
+    assert_eq!(bench.board.columns[..5], [0x30, 0x30, 0x34, 0x37, 0x5A]);
+    assert_eq!(reply(&mut bench, "2100012C04"), "#992100012C0430303437");
+    assert_eq!(reply(&mut bench, "24E003E6020047"), "#9924E");
+    assert_eq!(bench.board.columns[697..], [0x5A, 0x00, 0x47]);
+    let longest = ["24E0012CFF", &"C3".repeat(255)].concat();
+    assert_eq!(reply(&mut bench, &longest), "#9924E");
+    assert!(bench.board.columns[..255].iter().all(|&byte| byte == 0xC3));
+    assert_eq!(bench.board.columns[255], 0x5A);
+    assert_eq!(bench.board.used, 9 + 7 + 260);
+}
+
+#[test]
+fn queries_change_nothing() {
+    let mut bench = bench();
+    reply(&mut bench, "24E0012C0141");
+    bench.board.journal[6..].fill(0xEE); // stands beyond the used length: no query's concern
+    let before = bench.board.clone();
+    for query in ["200..........", "208", "209001014", "2100012C10", "212FF"] {
+        reply(&mut bench, query);
+        assert_eq!(bench.board, before, "{query}");
+    }
+}
+
+#[test]
+fn document_000_example_with_point_000_names_no_held_point() {
+    // "General Rules" 1.3 shows !99209000032 with SC 53; our points begin at 1.
+    let mut bench = bench();
+    assert_eq!(bench.hand(b"!9920900003253\r\n"), (106, b"&991062F\r\n".to_vec()));
+}
+
+#[test]
+fn replies_carry_the_boards_own_station() {
+    let mut bench = bench();
+    bench.station = 0x0A;
+    assert_eq!(reply(&mut bench, "208"), "#0A208000");
+    assert_eq!(bench.ask("299").1[..6], *b"&0A101");
+}

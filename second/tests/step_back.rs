@@ -1,0 +1,194 @@
+//! The journal and the step back, through the calls (document 01, "Journal"; demand 3).
+
+use second::bench::Bench;
+use second::link::step_back;
+
+/// One point: the least journal is 340 bytes.
+fn small() -> Bench {
+    Bench::fresh(1, 340)
+}
+
+fn accept(bench: &mut Bench, id_and_content: &str) {
+    assert_eq!(bench.ask(id_and_content).0, 0, "{id_and_content}");
+}
+
+#[test]
+fn points_come_back_write_after_write() {
+    let mut bench = Bench::fresh(3, 420);
+    let fresh = bench.board.clone();
+    accept(&mut bench, "24400100201000100010001000000010100010001000100000002");
+    let first = bench.board.clone();
+    accept(&mut bench, "244002002010009000900090000000901000800080008FFFFFFFF");
+    let second = bench.board.clone();
+    accept(&mut bench, "246001003");
+    assert_eq!(bench.board.used, 85 + 85 + 125);
+    assert!(bench.board.points.iter().all(|&byte| byte == 0));
+    for expected in [second, first, fresh] {
+        assert_eq!(step_back(&mut bench.board), 0);
+        assert_eq!(bench.board, expected);
+    }
+    assert_eq!(step_back(&mut bench.board), 9);
+}
+
+#[test]
+fn columns_come_back_with_leading_zeros() {
+    let mut bench = small();
+    accept(&mut bench, "24E0012C0430303437");
+    let first = bench.board.clone();
+    accept(&mut bench, "24E0012C04FFFFFFFF");
+    accept(&mut bench, "24E003E701AA");
+    assert_eq!(step_back(&mut bench.board), 0);
+    assert_eq!(step_back(&mut bench.board), 0);
+    assert_eq!(bench.board, first);
+    assert_eq!(bench.board.columns[..4], [0x30, 0x30, 0x34, 0x37]);
+    assert_eq!(step_back(&mut bench.board), 0);
+    assert_eq!(bench.board, small().board);
+}
+
+#[test]
+fn points_and_columns_share_the_order() {
+    let mut bench = small();
+    accept(&mut bench, "24E0012C0141");
+    accept(&mut bench, "2440010010100000000000000000007");
+    accept(&mut bench, "24E0012C0142");
+    assert_eq!(step_back(&mut bench.board), 0);
+    assert_eq!((bench.board.columns[0], bench.board.points[11]), (0x41, 7));
+    assert_eq!(step_back(&mut bench.board), 0);
+    assert_eq!((bench.board.columns[0], bench.board.points[11]), (0x41, 0));
+    assert_eq!(step_back(&mut bench.board), 0);
+    assert_eq!(bench.board, small().board);
+}
+
+#[test]
+fn a_write_that_changes_no_byte_is_an_entry_too() {
+    let mut bench = small();
+    accept(&mut bench, "246001001");
+    assert_eq!(bench.board.used, 45);
+    accept(&mut bench, "24E0012C0100");
+    assert_eq!(bench.board.used, 51);
+    assert_eq!(step_back(&mut bench.board), 0);
+    assert_eq!(bench.board.used, 45);
+}
+
+#[test]
+fn queries_and_refused_writes_are_not_stepped_back() {
+    let mut bench = small();
+    accept(&mut bench, "24E0012C0141");
+    accept(&mut bench, "24E0012C0142");
+    for query in ["200..........", "208", "209001001", "2100012C02", "212FF"] {
+        accept(&mut bench, query);
+    }
+    for refused in ["24E0012C0043", "24E0112C0143", "246002001", "24400100100000000000000", "299"] {
+        assert!(bench.ask(refused).0 > 100, "{refused}");
+    }
+    assert_eq!(bench.hand(b"!9924E0012C014300\r\n").0, 7);
+    assert_eq!(bench.board.columns[0], 0x42);
+    assert_eq!(step_back(&mut bench.board), 0);
+    assert_eq!(bench.board.columns[0], 0x41);
+}
+
+#[test]
+fn a_full_journal_drops_its_oldest_and_no_more_than_needed() {
+    let mut bench = small();
+    // Entries of 45 bytes: seven make 315, the eighth would make 360.
+    for number in 1..=7 {
+        accept(&mut bench, &format!("24400100101000000000000000000{number}0"));
+        assert_eq!(bench.board.used, 45 * number);
+    }
+    accept(&mut bench, "2440010010100000000000000000080");
+    assert_eq!(bench.board.used, 315);
+    // 25 bytes are left: 20 columns take all of them.
+    accept(&mut bench, &["24E0012C14", &"41".repeat(20)].concat());
+    assert_eq!(bench.board.used, 340);
+    // One column's 6 bytes cost one entry of 45.
+    accept(&mut bench, "24E0012C0142");
+    assert_eq!(bench.board.used, 301);
+    assert!(bench.board.journal[301..].iter().all(|&byte| byte == 0));
+    for columns in [0x41, 0x00] {
+        assert_eq!(step_back(&mut bench.board), 0);
+        assert_eq!(bench.board.columns[0], columns);
+    }
+    // Points 8 to 3 go back; the writes 1 and 2 can't be taken back any more.
+    for number in [0x70, 0x60, 0x50, 0x40, 0x30, 0x20] {
+        assert_eq!(step_back(&mut bench.board), 0);
+        assert_eq!(bench.board.points[11], number);
+    }
+    assert_eq!(bench.board.used, 0);
+    assert_eq!(step_back(&mut bench.board), 9);
+    assert_eq!(bench.board.points[11], 0x20);
+}
+
+#[test]
+fn the_longest_entries_fit_the_least_journal() {
+    let mut bench = Bench::fresh(1_500, 60_300);
+    bench.board.points.fill(0x11);
+    for _ in 0..2 {
+        accept(&mut bench, "2460015DC");
+        assert_eq!(bench.board.used, 60_005);
+        // 2 + 60,000 is EA62.
+        assert_eq!(bench.board.journal[..5], [0x50, 0xEA, 0x62, 0, 1]);
+    }
+    accept(&mut bench, &["24E0012CFF", &"41".repeat(255)].concat());
+    assert_eq!(bench.board.used, 60_265);
+    // 35 bytes are left: an entry of 42 costs the long one.
+    accept(&mut bench, &["24E0012C25", &"41".repeat(37)].concat());
+    assert_eq!(bench.board.used, 260 + 42);
+}
+
+#[test]
+fn journals_of_the_greatest_length_are_used_to_the_last_byte() {
+    let mut bench = Bench::fresh(1, 65_536);
+    // 65,536 is 251 times 260 and 46 times 6.
+    for _ in 0..251 {
+        accept(&mut bench, &["24E0012CFF", &"41".repeat(255)].concat());
+    }
+    for _ in 0..46 {
+        accept(&mut bench, "24E0012C0141");
+    }
+    assert_eq!(bench.board.used, 65_536);
+    accept(&mut bench, "24E0012C0141");
+    assert_eq!(bench.board.used, 65_536 - 260 + 6);
+    for _ in 0..297 {
+        assert_eq!(step_back(&mut bench.board), 0);
+    }
+    assert_eq!(step_back(&mut bench.board), 9);
+}
+
+#[test]
+fn bytes_beyond_the_used_length_are_00_after_a_write_and_a_step_back() {
+    let mut bench = small();
+    bench.board.journal.fill(0xEE);
+    accept(&mut bench, "24E0012C0141");
+    assert!(bench.board.journal[6..].iter().all(|&byte| byte == 0));
+    accept(&mut bench, "24E0012C024242");
+    assert_eq!(bench.board.used, 13);
+    bench.board.journal[13..].fill(0xEE);
+    assert_eq!(step_back(&mut bench.board), 0);
+    assert_eq!(bench.board.used, 6);
+    assert!(bench.board.journal[6..].iter().all(|&byte| byte == 0));
+}
+
+#[test]
+fn spoiled_old_bytes_come_back_as_they_were() {
+    let mut bench = small();
+    bench.board.points.fill(0x5A);
+    let before = bench.board.clone();
+    accept(&mut bench, "2440010010100000000000000000001");
+    assert_eq!(step_back(&mut bench.board), 0);
+    assert_eq!(bench.board, before);
+}
+
+#[test]
+fn a_spoiled_journal_refuses_both_calls() {
+    let mut bench = small();
+    accept(&mut bench, "24E0012C0141");
+    accept(&mut bench, "24E0012C0142");
+    for at in [0, 1, 2, 3, 6, 7, 8, 9] {
+        let mut spoiled = bench.clone();
+        spoiled.board.journal[at] ^= 0x04;
+        let before = spoiled.board.clone();
+        assert_eq!(step_back(&mut spoiled.board), 4, "{at}");
+        assert_eq!(spoiled.ask("208").0, 4, "{at}");
+        assert_eq!(spoiled.board, before);
+    }
+}
