@@ -5,8 +5,8 @@ use native.Mathlib.Nat.{add-zero, zero-add}
 use native.Mathlib.Numerals.{add-one}
 use mathlib.Core.Path.{_≡_, refl, sym, ap, _∙_}
 use mathlib.Core.List.{List, [], _∷_, _++_, append-assoc, append-nil}
-use lib.ListN.{length, take, drop, getD, set, length-append, length-drop, take-append-drop}
-use lib.Seq.{set-at, drop-cons, drop-drop, drop-append-add, take-at, drop-at, take-suc, sets-eq, sets, length-take-le, take-append-le, drop-append-le, set-append-left}
+use lib.ListN.{length, take, drop, getD, set, length-append, length-drop, take-append-drop, List·getD-append}
+use lib.Seq.{set-at, drop-drop, drop-append-add, take-at, drop-at, take-suc, sets-eq, sets, length-take-le, getD-append-add, getD-drop, getD-take}
 use Rattle.digits.specs.Laid.{laid}
 
 -- nothing laid, nothing changed
@@ -91,3 +91,57 @@ laid-over d bs w at h k = laid-front (laid d at bs) w ∙ ap (λ (r : List ℕ).
         ∙ drop-append-add (take at d ++ bs) (drop (at + length bs) d) (length w - (at + length bs))
         ∙ drop-drop (length w - (at + length bs)) (at + length bs) d
         ∙ ap (λ (m : ℕ). drop m d) total
+
+-- a byte stored just behind what is laid
+pub laid-push : (d w : List ℕ) (at n a : ℕ) → at + length w ≡ n → n < length d → set (laid d at w) n a ≡ laid d at (w ++ (a ∷ []))
+laid-push d w at n a e h =
+    let l : length (laid d at w) ≡ length d = length-laid d at w (omega arith) in
+    stored (laid d at w) n (a ∷ []) (omega arith) ∙ laid-on d w (a ∷ []) at n e (omega arith)
+
+-- a turn of a loop that lays s byte after byte
+pub laid-more : (d s : List ℕ) (at i a : ℕ) → a ≡ getD s i 0 → i < length s → at + length s ≤ length d → set (laid d at (take i s)) (at + i) a ≡ laid d at (take (i + 1) s)
+laid-more d s at i a e h k =
+    let l : length (take i s) ≡ i = length-take-le i s (omega arith) in
+    laid-push d (take i s) at (at + i) a (omega arith) (omega arith) ∙ ap (laid d at) (rw (add-one, take-suc s i 0 h, e))
+
+-- what stands beyond what is laid
+pub beyond-laid : (d w : List ℕ) (at i : ℕ) → at + length w ≤ length d → at + length w ≤ i → getD (laid d at w) i 0 ≡ getD d i 0
+unfolding laid
+beyond-laid d w at i h k =
+    let p = take at d ++ w in
+    let l : length p ≡ at + length w = simp (length-append, length-take-le at d (omega arith)) in
+    let e : length p + (i - (at + length w)) ≡ i = omega arith in
+    let f : at + length w + (i - (at + length w)) ≡ i = omega arith in
+    ap (λ (m : ℕ). getD (take at d ++ (w ++ drop (at + length w) d)) m 0) (sym e)
+    ∙ ap (λ (r : List ℕ). getD r (length p + (i - (at + length w))) 0) (sym (append-assoc (take at d) w (drop (at + length w) d)))
+    ∙ getD-append-add p (drop (at + length w) d) (i - (at + length w)) 0
+    ∙ getD-drop (at + length w) d (i - (at + length w)) 0
+    ∙ ap (λ (m : ℕ). getD d m 0) f
+
+-- a part from a place on, with bytes laid at its front, put back
+pub laid-part : (d w : List ℕ) (at : ℕ) → at ≤ length d → take at d ++ laid (drop at d) 0 w ≡ laid d at w
+unfolding laid
+laid-part d w at h = rw (zero-add (length w), drop-drop (length w) at d)
+
+-- what stands before what is laid
+pub before-laid : (d w : List ℕ) (at i : ℕ) → at ≤ length d → i < at → getD (laid d at w) i 0 ≡ getD d i 0
+unfolding laid
+before-laid d w at i h k =
+    let l : length (take at d) ≡ at = length-take-le at d h in
+    List·getD-append (take at d) (w ++ drop (at + length w) d) 0 i (omega arith) ∙ getD-take at d i 0 k
+
+-- what stood there, laid back over what was laid
+pub laid-back : (d w : List ℕ) (at n : ℕ) → length w ≡ n → at + n ≤ length d → laid (laid d at w) at (take n (drop at d)) ≡ d
+unfolding laid
+laid-back d w at n e h =
+    let l : length (take at d) ≡ at = length-take-le at d (omega arith) in
+    let o = take n (drop at d) in
+    let m : length o ≡ n = length-take-le n (drop at d) (simp length-drop (omega arith)) in
+    let f : at + length o ≡ length (take at d ++ w) = simp length-append (omega arith) in
+    let q : drop (at + length o) (take at d ++ (w ++ drop (at + length w) d)) ≡ drop n (drop at d) =
+    ap (λ (x : ℕ). drop x (take at d ++ (w ++ drop (at + length w) d))) f
+    ∙ ap (drop (length (take at d ++ w))) (sym (append-assoc (take at d) w (drop (at + length w) d)))
+    ∙ drop-at (take at d ++ w) (drop (at + length w) d) (length (take at d ++ w)) refl
+    ∙ ap (λ (x : ℕ). drop (at + x) d) e
+    ∙ sym (drop-drop n at d) in
+    rw (take-at (take at d) (w ++ drop (at + length w) d) at l, q, take-append-drop n (drop at d)) (take-append-drop at d)

@@ -1,0 +1,39 @@
+-- Document 01, "The areas" and "Journal": kinds of numbered things, and runs of them.
+use Prim.Native.Nat.{ℕ, _+_, _-_, _*_}
+use mathlib.Core.Bool.{Bool, cond, _&&_}
+use mathlib.Core.List.{List}
+use lib.ListN.{take, drop}
+use lib.Dec.{leb, eqb}
+use Rattle.digits.specs.Laid.{laid}
+use Rattle.areas.specs.declared.kinds.Kind.{Kind}
+
+-- "Points: 40·N bytes, [..] points 1 to N"; "tag (50H points [..])", "p at least 1"
+abbrev pub pointsOf : ℕ → Kind
+pointsOf n = record { tag = 0x50; first = 1; unit = 40; held = n; most = n }
+
+-- "Columns: 700 bytes, string columns 300 to 999"; "tag ([..] 53H columns)", "c 1 to 255"
+abbrev pub columnsOf : Kind
+columnsOf = record { tag = 0x53; first = 300; unit = 1; held = 700; most = 255 }
+
+-- the kind of a tag; of any other tag nothing is held
+unfoldable pub kindOf : ℕ → ℕ → Kind
+kindOf n tag =
+    cond (eqb tag 0x50) (pointsOf n) (cond (eqb tag 0x53) columnsOf (record { tag = tag; first = 0; unit = 1; held = 0; most = 0 }))
+
+-- each number "from start to start+count-1" is held (refusal 106)
+unfoldable pub holds : Kind → ℕ → ℕ → Bool
+holds k start count = leb (k .first) start && leb (start + count) (k .first + k .held)
+
+-- how long a kind's area is, and where a number stands in it
+abbrev pub sizeOf : Kind → ℕ
+sizeOf k = k .held * k .unit
+
+abbrev pub placeOf : Kind → ℕ → ℕ
+placeOf k start = (start - k .first) * k .unit
+
+-- the bytes of so many from a number on, and bytes put from a number on
+unfoldable pub runOf : Kind → ℕ → ℕ → List ℕ → List ℕ
+runOf k start count area = take (count * k .unit) (drop (placeOf k start) area)
+
+unfoldable pub put : Kind → ℕ → List ℕ → List ℕ → List ℕ
+put k start bytes area = laid area (placeOf k start) bytes
