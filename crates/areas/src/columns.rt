@@ -11,12 +11,12 @@ fn put_pairs(area: &mut [u8], digits: &[u8], many: usize)
     requires { ⌜ (length (now digits) ≡ 2 * many) × (many ≤ length (now area)) × (allDigits (now digits) ≡ true) ⌝ }
     ensures { λ _. ⌜ now (area .exit) ≡ laid (now (area .entry)) 0 (bytesIn (now (digits .entry))) ⌝ }
 {
-    let mut i = 0;
-    while i < many {
-        let high = digits::digit(digits[2 * i]);
-        let low = digits::digit(digits[2 * i + 1]);
-        area[i] = high * 16 + low;
-        i += 1;
+    let mut pair = 0;
+    while pair < many {
+        let high = digits::digit(digits[2 * pair]);
+        let low = digits::digit(digits[2 * pair + 1]);
+        area[pair] = high * 16 + low;
+        pair += 1;
     }
 }
 

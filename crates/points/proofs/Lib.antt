@@ -6,3 +6,5 @@ pub mod Parts
 pub mod Measured
 pub mod Slotted
 pub mod Chained
+pub mod Worked
+pub mod Promised

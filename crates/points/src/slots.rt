@@ -112,10 +112,10 @@ fn positions_at(area: &[u8], at: usize) -> [Position; 8]
 {
     let zero = Point::zero();
     let mut positions = zero.positions;
-    let mut axis = 0;
-    while axis < 8 {
-        positions[axis] = Position::of(four_at(area, at + axis * Point::POSITION));
-        axis += 1;
+    let mut next = 0;
+    while next < 8 {
+        positions[next] = Position::of(four_at(area, at + next * Point::POSITION));
+        next += 1;
     }
     positions
 }

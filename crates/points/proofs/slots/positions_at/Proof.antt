@@ -12,10 +12,10 @@ use Rattle.points.proofs.slots.positions_at.Statement.{statement}
 use Rattle.points.proofs.slots.positions_at.Tie as tie
 
 abbrev Inv-loop : tie.InvT-loop
-Inv-loop area at positions₀ axis₀ positions axis = (axis ≤ 8) × (length positions ≡ 8) × (take axis positions ++ positionsIn (8 - axis) (drop (at + axis * 4) area) ≡ positionsIn 8 (drop at area))
+Inv-loop area at positions₀ next₀ positions next = (next ≤ 8) × (length positions ≡ 8) × (take next positions ++ positionsIn (8 - next) (drop (at + next * 4) area) ≡ positionsIn 8 (drop at area))
 
 abbrev μ-loop : tie.MeasureT-loop
-μ-loop area at positions₀ axis₀ positions axis = 8 - axis
+μ-loop area at positions₀ next₀ positions next = 8 - next
 
 zero-requires : tie.Need-zero-requires Inv-loop μ-loop
 zero-requires c κs = search needs
@@ -41,8 +41,8 @@ mul-positions c = omega arith
 array-set-from-positions : tie.Need-array-set-from-positions Inv-loop μ-loop
 array-set-from-positions c = omega arith
 
-add-axis : tie.Need-add-axis Inv-loop μ-loop
-add-axis c = omega arith
+add-next : tie.Need-add-next Inv-loop μ-loop
+add-next c = omega arith
 
 loop-less : tie.Need-loop-less Inv-loop μ-loop
 loop-less c = omega arith
@@ -51,12 +51,12 @@ loop-again : tie.Need-loop-again Inv-loop μ-loop
 loop-again c =
     let g = c .before .before .before in
     let a = g .before .before .before .before .args in
-    (omega arith, simp length-set (g .loop .inv .1), load-next (a .area .now) (a .at) (g .loop .axis) (g .loop .positions) _ (omega arith) (g .loop .inv .1) (c .of .ensures ∙ rw (c .before .four-at .ensures)) ∙ g .loop .inv .2)
+    (omega arith, simp length-set (g .loop .inv .1), load-next (a .area .now) (a .at) (g .loop .next) (g .loop .positions) _ (omega arith) (g .loop .inv .1) (c .of .ensures ∙ rw (c .before .four-at .ensures)) ∙ g .loop .inv .2)
 
 returns : tie.Need-returns Inv-loop μ-loop
 returns c =
     let g = c .before in
-    sym (load-done (g .loop .positions) (g .loop .axis) _ (g .loop .inv .1) (omega arith)) ∙ g .loop .inv .2
+    sym (load-done (g .loop .positions) (g .loop .next) _ (g .loop .inv .1) (omega arith)) ∙ g .loop .inv .2
 
 pub positions-at-spec : {M : Type 1} → statement M
 positions-at-spec =
@@ -72,7 +72,7 @@ positions-at-spec =
     of-requires
     mul-positions
     array-set-from-positions
-    add-axis
+    add-next
     loop-less
     loop-again
     returns)
