@@ -1,0 +1,86 @@
+use Prim.Native.Nat.{ℕ, _+_, _-_, _<_}
+use mathlib.Core.Path.{ap, _∙_}
+use native.Mathlib.Omega.{arith}
+use borrow.Author.Needs.{needs}
+use lib.ListN.{length}
+use Rattle.journal.specs.Journal.{frontOf}
+use Rattle.journal.proofs.Walk.{part-rest}
+use Rattle.journal.proofs.Codec.{Bytes}
+use Rattle.journal.proofs.Keeping.{Cutting, cutting-first, cutting-next, cutting-done}
+use Rattle.journal.proofs.cut.Statement.{statement}
+use Rattle.journal.proofs.cut.Tie as tie
+
+abbrev Inv-loop : tie.InvT-loop
+Inv-loop bytes over n at₀ at = Cutting n over bytes at
+
+abbrev μ-loop : tie.MeasureT-loop
+μ-loop bytes over n at₀ at = length bytes - at
+
+abbrev start : tie.After-front Inv-loop μ-loop → tie.Start Inv-loop μ-loop
+start c = c .before .before .before .before .before
+
+abbrev next : tie.After-front Inv-loop μ-loop → ℕ
+next c = c .before .before .before .loop .at + c .front .result
+
+turn : (c : tie.After-front Inv-loop μ-loop)
+    → (c .before .before .before .loop .at < next c) × Cutting (start c .args .n) (start c .args .over) (start c .args .bytes .now) (next c)
+turn c =
+    let s = start c in
+    let g = c .before .before .before .loop in
+    cutting-next (s .args .n) (s .args .over) (s .args .bytes .now) (λ i. c .before .before .before .before .shared-slice-known .given i .fits)
+    (g .at)
+    (g .inv)
+    (c .front .result)
+    (c .front .ensures ∙ ap (frontOf (s .args .n)) (part-rest (g .at) (s .args .bytes .now)))
+    (s .pre .1)
+    (c .before .before .loop-test .taken)
+
+loop-holds : tie.Need-loop-holds Inv-loop μ-loop
+loop-holds c = cutting-first (c .before .args .n) (c .before .args .over) (c .before .args .bytes .now) (c .before .pre .2)
+
+sub-front : tie.Need-sub-front Inv-loop μ-loop
+sub-front c = search needs
+
+part-front-start : tie.Need-part-front-start Inv-loop μ-loop
+part-front-start c = search needs
+
+part-front-end : tie.Need-part-front-end Inv-loop μ-loop
+part-front-end c = search needs
+
+front-requires : tie.Need-front-requires Inv-loop μ-loop
+front-requires c κs = search needs
+
+add-at : tie.Need-add-at Inv-loop μ-loop
+add-at c = let t = turn c in omega arith
+
+loop-less : tie.Need-loop-less Inv-loop μ-loop
+loop-less c = let t = turn c in omega arith
+
+loop-again : tie.Need-loop-again Inv-loop μ-loop
+loop-again c = turn c .1
+
+returns : tie.Need-returns Inv-loop μ-loop
+returns c =
+    let s = c .before .before .before in
+    let g = c .before .loop in
+    let bytes : Bytes (s .args .bytes .now) = λ i. c .before .before .shared-slice-known .given i .fits in (
+      g .inv .within,
+      c .loop-test .left,
+      cutting-done (s .args .n) (s .args .over) (s .args .bytes .now) bytes (g .at) (g .inv) (c .loop-test .left),
+    )
+
+pub cut-spec : {M : Type 1} → statement M
+cut-spec =
+    tie.close
+    (tie.spec
+    Inv-loop
+    μ-loop
+    loop-holds
+    sub-front
+    part-front-start
+    part-front-end
+    front-requires
+    add-at
+    loop-less
+    loop-again
+    returns)

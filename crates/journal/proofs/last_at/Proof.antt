@@ -1,0 +1,77 @@
+use Prim.Native.Nat.{_+_, _-_}
+use mathlib.Core.Path.{ap, _∙_}
+use native.Mathlib.Omega.{arith}
+use borrow.Author.Needs.{needs}
+use lib.ListN.{length}
+use Rattle.journal.specs.Journal.{frontOf}
+use Rattle.journal.proofs.Walk.{part-rest}
+use Rattle.journal.proofs.Back.{before, Seek, seek-first, seek-next, seek-done}
+use Rattle.journal.proofs.last_at.Statement.{statement}
+use Rattle.journal.proofs.last_at.Tie as tie
+
+abbrev Inv-loop : tie.InvT-loop
+Inv-loop bytes n at₀ next₀ at next = Seek n bytes at next
+
+abbrev μ-loop : tie.MeasureT-loop
+μ-loop bytes n at₀ next₀ at next = length bytes - next
+
+abbrev start : tie.After-front2 Inv-loop μ-loop → tie.Start Inv-loop μ-loop
+start c = c .before .before .before .before .before .before
+
+turn : (c : tie.After-front2 Inv-loop μ-loop)
+    → Seek (start c .args .n) (start c .args .bytes .now) (c .before .before .before .loop .next) (c .before .before .before .loop .next + c .front2 .result)
+turn c =
+    let s = start c in
+    let g = c .before .before .before .loop in
+    seek-next (s .args .n) (s .args .bytes .now) (g .at) (g .next) (c .front2 .result) (g .inv) (c .before .before .loop-test .taken)
+    (c .front2 .ensures ∙ ap (frontOf (s .args .n)) (part-rest (g .next) (s .args .bytes .now)))
+
+front-requires : tie.Need-front-requires Inv-loop μ-loop
+front-requires c κs = search needs
+
+loop-holds : tie.Need-loop-holds Inv-loop μ-loop
+loop-holds c = let s = c .before .before in seek-first (s .args .n) (s .args .bytes .now) (c .front .ensures) (s .pre .1) (s .pre .2)
+
+sub-front : tie.Need-sub-front Inv-loop μ-loop
+sub-front c = search needs
+
+part-front-start : tie.Need-part-front-start Inv-loop μ-loop
+part-front-start c = search needs
+
+part-front-end : tie.Need-part-front-end Inv-loop μ-loop
+part-front-end c = search needs
+
+front-requires-2 : tie.Need-front-requires-2 Inv-loop μ-loop
+front-requires-2 c κs = search needs
+
+add-next : tie.Need-add-next Inv-loop μ-loop
+add-next c = let t = turn c in omega arith
+
+loop-less : tie.Need-loop-less Inv-loop μ-loop
+loop-less c = let t = turn c in omega arith
+
+loop-again : tie.Need-loop-again Inv-loop μ-loop
+loop-again c = turn c
+
+returns : tie.Need-returns Inv-loop μ-loop
+unfolding before
+returns c =
+    let s = c .before .before .before .before in
+    seek-done (s .args .n) (s .args .bytes .now) (c .before .loop .at) (c .before .loop .next) (c .before .loop .inv) (c .loop-test .left)
+
+pub last-at-spec : {M : Type 1} → statement M
+last-at-spec =
+    tie.close
+    (tie.spec
+    Inv-loop
+    μ-loop
+    front-requires
+    loop-holds
+    sub-front
+    part-front-start
+    part-front-end
+    front-requires-2
+    add-next
+    loop-less
+    loop-again
+    returns)

@@ -1,0 +1,199 @@
+// The journal: entries in a lent area, adding one, stepping back (document 01, "Journal").
+use areas::kinds::Kind;
+use areas::runs::clear_run;
+use areas::runs::move_run;
+use areas::runs::put_run;
+ghost use mathlib.Core.Path.{_≡_};
+ghost use mathlib.Core.Bool.{true};
+ghost use mathlib.Core.List.{_∷_, _++_};
+ghost use Prim.Native.Nat.{_+_, _-_, _*_, _≤_, _<_};
+ghost use lib.ListN.{length, take, drop, getD, replicate};
+ghost use Rattle.areas.specs.Bytes.{twoOf, twoAt};
+ghost use Rattle.areas.specs.Kinds.{pointsOf, columnsOf, kindOf, sizeOf};
+ghost use Rattle.digits.specs.Laid.{laid};
+ghost use Rattle.journal.specs.Journal.{encode, encodes, entryFits, frontOf, whole, entryAt, entriesIn, kept, added, areaOf, others, restored, entryFor};
+ghost use Rattle.journal.specs.Laws.{Holds, Good, SteppedBack};
+
+fn wide(b: u8) -> usize
+    ensures { λ r. ⌜ (r ≡ b) × (r < 256) ⌝ }
+{
+    b as usize
+}
+
+// The number in two bytes at a place, high byte first.
+fn two_at(s: &[u8], at: usize) -> usize
+    requires { ⌜ at + 1 < length (now s) ⌝ }
+    ensures { λ r. ⌜ (r ≡ twoAt (now (s .entry)) at) × (r < 65536) ⌝ }
+{
+    wide(s[at]) * 256 + wide(s[at + 1])
+}
+
+// So many old bytes from a start number on make a well-formed entry of a kind.
+fn fits(k: Kind, start: usize, size: usize) -> bool
+    requires { ⌜ (0 < k .unit) × (start < 65536) × (size < 65536) × (k .first + k .held < 65536) ⌝ }
+    ensures { λ r. ⌜ r ≡ entryFits k start size ⌝ }
+{
+    let unit = k.unit;
+    let most = k.most;
+    if size % unit != 0 {
+        return false;
+    }
+    let count = size / unit;
+    if count < 1 {
+        return false;
+    }
+    if most < count {
+        return false;
+    }
+    k.has(start, count)
+}
+
+// How long the entry at the front is, 0 where no whole well-formed one stands there.
+fn front(bytes: &[u8], n: usize) -> usize
+    requires { ⌜ n ≤ 1500 ⌝ }
+    ensures { λ r. ⌜ r ≡ frontOf n (now (bytes .entry)) ⌝ }
+{
+    if bytes.len() < 5 {
+        return 0;
+    }
+    let length = two_at(bytes, 1);
+    let start = two_at(bytes, 3);
+    if length < 2 {
+        return 0;
+    }
+    if bytes.len() < length + 3 {
+        return 0;
+    }
+    if fits(Kind::of(bytes[0], n), start, length - 2) {
+        return length + 3;
+    }
+    0
+}
+
+// Whether bytes are whole well-formed entries.
+pub fn is_whole(bytes: &[u8], n: usize) -> bool
+    requires { ⌜ n ≤ 1500 ⌝ }
+    ensures { λ r. ⌜ r ≡ whole n 0 (now (bytes .entry)) ⌝ }
+{
+    let mut at = 0;
+    while at < bytes.len() {
+        let size = front(&bytes[at..], n);
+        if size == 0 {
+            return false;
+        }
+        at += size;
+    }
+    true
+}
+
+// How many bytes of whole entries go from the front, so that at least so many do, and no entry more.
+fn cut(bytes: &[u8], over: usize, n: usize) -> usize
+    requires { ⌜ (n ≤ 1500) × (over ≤ length (now bytes)) × (whole n 0 (now bytes) ≡ true) ⌝ }
+    ensures { λ r. ⌜ (r ≤ length (now (bytes .entry))) × (over ≤ r) × (drop r (now (bytes .entry)) ≡ encodes (kept (length (now (bytes .entry)) - over) (entriesIn n 0 (now (bytes .entry))))) ⌝ }
+{
+    let mut at = 0;
+    while at < over {
+        at += front(&bytes[at..], n);
+    }
+    at
+}
+
+// How many bytes too many `used` and `size` bytes are in an area of `room` bytes.
+fn over_by(used: usize, size: usize, room: usize) -> usize
+    requires { ⌜ (used ≤ room) × (size ≤ room) × (room ≤ 65536) ⌝ }
+    ensures { λ r. ⌜ r ≡ used + size - room ⌝ }
+{
+    if room < used + size {
+        return used + size - room;
+    }
+    0
+}
+
+// The five bytes before an entry's old bytes: tag, length of what follows, start number.
+fn put_head(journal: &mut [u8], at: usize, tag: u8, many: usize, start: usize)
+    requires { ⌜ (at + 5 ≤ length (now journal)) × (many < 65536) × (start < 65536) ⌝ }
+    ensures { λ _. ⌜ now (journal .exit) ≡ laid (now (journal .entry)) at (tag ∷ (twoOf many ++ twoOf start)) ⌝ }
+{
+    journal[at] = tag;
+    journal[at + 1] = (many / 256) as u8;
+    journal[at + 2] = (many % 256) as u8;
+    journal[at + 3] = (start / 256) as u8;
+    journal[at + 4] = (start % 256) as u8;
+}
+
+// An entry laid at a place, and 00 from its end to the end of the area.
+fn put_entry(journal: &mut [u8], at: usize, tag: u8, start: usize, old: &[u8])
+    requires { ⌜ (at + (5 + length (now old)) ≤ length (now journal)) × (start < 65536) × (2 + length (now old) < 65536) ⌝ }
+    ensures { λ _. ⌜ now (journal .exit) ≡ take at (now (journal .entry)) ++ (encode (entryFor tag start (now (old .entry))) ++ replicate (length (now (journal .entry)) - (at + (5 + length (now (old .entry))))) 0) ⌝ }
+{
+    put_head(journal, at, tag, old.len() + 2, start);
+    put_run(journal, at + 5, old);
+    let end = at + 5 + old.len();
+    let many = journal.len() - end;
+    clear_run(journal, end, many);
+}
+
+// Adds an entry: the oldest are dropped, no more than needed, until it fits. The new used length.
+pub fn add(journal: &mut [u8], used: usize, tag: u8, start: usize, old: &[u8], n: usize) -> usize
+    requires { ⌜ (n ≤ 1500) × (length (now journal) ≤ 65536) × (used ≤ length (now journal)) × (5 + length (now old) ≤ length (now journal)) ⌝ }
+    requires { ⌜ whole n 0 (take used (now journal)) ≡ true ⌝ }
+    requires { ⌜ Good n (entryFor tag start (now old)) ⌝ }
+    ensures { λ r. ⌜ Holds (length (now (journal .entry))) (added (length (now (journal .entry))) (entriesIn n 0 (take used (now (journal .entry)))) (entryFor tag start (now (old .entry)))) (now (journal .exit)) r ⌝ }
+{
+    let size = old.len() + 5;
+    let over = over_by(used, size, journal.len());
+    let gone = cut(&journal[..used], over, n);
+    let left = used - gone;
+    move_run(journal, gone, left);
+    put_entry(journal, left, tag, start, old);
+    left + size
+}
+
+// Where the last entry starts.
+fn last_at(bytes: &[u8], n: usize) -> usize
+    requires { ⌜ (n ≤ 1500) × (0 < length (now bytes)) × (whole n 0 (now bytes) ≡ true) ⌝ }
+    ensures { λ r. ⌜ r ≡ length (encodes (others (entriesIn n 0 (now (bytes .entry))))) ⌝ }
+{
+    let mut at = 0;
+    let mut next = front(bytes, n);
+    while next < bytes.len() {
+        at = next;
+        next += front(&bytes[next..], n);
+    }
+    at
+}
+
+// An area of a kind with an entry's old bytes back, where the entry is of that kind.
+fn restore(area: &mut [u8], k: Kind, tag: u8, start: usize, old: &[u8])
+    requires { ⌜ (length (now area) ≡ sizeOf k) × (sizeOf k < 65536) ⌝ }
+    requires { ⌜ (tag ≡ k .tag → entryFits k start (length (now old)) ≡ true) ⌝ }
+    ensures { λ _. ⌜ now (area .exit) ≡ restored k (entryFor tag start (now (old .entry))) (now (area .entry)) ⌝ }
+{
+    let own = k.tag;
+    if tag == own {
+        let at = k.place(start);
+        put_run(area, at, old);
+    }
+}
+
+// Steps back: the last entry's bytes go back where they came from, the entry is removed, the rest is 00. The new used length.
+pub fn step_back(
+    points: &mut [u8],
+    columns: &mut [u8],
+    journal: &mut [u8],
+    used: usize,
+    n: usize,
+) -> usize
+    requires { ⌜ (n ≤ 1500) × (0 < used) × (used ≤ length (now journal)) × (length (now points) ≡ sizeOf (pointsOf n)) × (length (now columns) ≡ sizeOf columnsOf) ⌝ }
+    requires { ⌜ whole n 0 (take used (now journal)) ≡ true ⌝ }
+    ensures { λ r. ⌜ SteppedBack n (now (points .entry)) (now (columns .entry)) (now (journal .entry)) (entriesIn n 0 (take used (now (journal .entry)))) (now (points .exit)) (now (columns .exit)) (now (journal .exit)) r ⌝ }
+{
+    let at = last_at(&journal[..used], n);
+    let tag = journal[at];
+    let start = two_at(journal, at + 3);
+    restore(points, Kind::points(n), tag, start, &journal[at + 5..used]);
+    restore(columns, Kind::columns(), tag, start, &journal[at + 5..used]);
+    let many = journal.len() - at;
+    clear_run(journal, at, many);
+    at
+}
