@@ -1,2 +1,3 @@
 pub mod Judging
 pub mod Patterns
+pub mod Readiness

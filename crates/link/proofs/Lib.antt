@@ -1,0 +1,5 @@
+pub mod Rows
+pub mod Tested
+pub mod Answering
+pub mod Carrying
+pub mod Ordered

@@ -1,0 +1,4 @@
+pub mod Call
+pub mod Refusals
+pub mod Answer
+pub mod Contract

@@ -1,0 +1,332 @@
+// The link: every frame answered, and the step back (document 01 whole).
+use frames::checks::is_ours;
+use frames::checks::is_shaped;
+use frames::checks::passes_sum;
+use frames::replies::error_reply;
+use journal::is_whole;
+use messages::Asked;
+use messages::content;
+use messages::judge;
+use queries::AxisRecord;
+use queries::reply_axes;
+use queries::reply_columns;
+use queries::reply_count;
+use queries::reply_list;
+use queries::reply_same;
+use writes::change_columns;
+use writes::clear_points;
+use writes::write_points;
+ghost use mathlib.Core.Path.{_≡_};
+ghost use mathlib.Core.Bool.{true};
+ghost use Prim.Native.Nat.{_+_, _*_, _/_, _≤_, _<_};
+ghost use lib.ListN.{length};
+ghost use Rattle.digits.specs.Laid.{laid};
+ghost use Rattle.frames.specs.Frame.{errorOf};
+ghost use Rattle.messages.specs.Asked.{askedOf};
+ghost use Rattle.link.specs.Call.{heldIn};
+ghost use Rattle.link.specs.Refusals.{pointsFit, journalFits, recordsFit, axesFit, silentOf, heardOf, backRefusalOf};
+ghost use Rattle.link.specs.Answer.{answerOf, backOf};
+ghost use Rattle.link.specs.Contract.{callOf, frameCall, backCall, Answers, StepsBack};
+
+// The board's settings.
+pub struct Settings {
+    pub station: u8,
+    pub fitted: u8,
+}
+
+// What is handed on from call to call.
+pub struct Kept {
+    pub used: usize,
+}
+
+// The axis records, and whether there were eight.
+pub struct Axes {
+    pub eight: bool,
+    pub records: [AxisRecord; 8],
+}
+
+// The answer to a frame: its number, the reply's length, what is handed on.
+pub struct Answered {
+    pub number: u16,
+    pub length: usize,
+    pub kept: Kept,
+}
+
+// The answer to a step back.
+pub struct Back {
+    pub number: u16,
+    pub kept: Kept,
+}
+
+// Refusal 2, passed: a multiple of 40 from 40 to 60,000.
+fn fits_points(points: &[u8]) -> bool
+    ensures { λ r. ⌜ r ≡ pointsFit (now (points .entry)) ⌝ }
+{
+    let n = points.len();
+    if n % 40 != 0 {
+        return false;
+    }
+    if n < 40 {
+        return false;
+    }
+    n <= 60000
+}
+
+// Refusal 4, passed: the journal's length, the used length, and whole well-formed entries.
+fn fits_journal(journal: &[u8], used: usize, n: usize) -> bool
+    requires { ⌜ n ≤ 1500 ⌝ }
+    ensures { λ r. ⌜ r ≡ journalFits n (now (journal .entry)) used ⌝ }
+{
+    if journal.len() < 40 * n + 300 {
+        return false;
+    }
+    if journal.len() > 65536 {
+        return false;
+    }
+    if used > journal.len() {
+        return false;
+    }
+    is_whole(&journal[..used], n)
+}
+
+fn fits_records(records: [AxisRecord; 8]) -> bool
+    ensures { λ r. ⌜ r ≡ recordsFit records ⌝ }
+{
+    let mut i = 0;
+    while i < 8 {
+        let record = records[i];
+        if record.sensor > 15 {
+            return false;
+        }
+        if record.error > 4095 {
+            return false;
+        }
+        i += 1;
+    }
+    true
+}
+
+// Refusal 5, passed: eight records, no sensor or error code too large, a fitted axis.
+fn fits_axes(axes: Axes, fitted: u8) -> bool
+    ensures { λ r. ⌜ r ≡ axesFit (axes .eight) (axes .records) fitted ⌝ }
+{
+    let eight = axes.eight;
+    let records = axes.records;
+    if !eight {
+        return false;
+    }
+    if !fits_records(records) {
+        return false;
+    }
+    fitted != 0
+}
+
+// The refusal without a reply, 1 to 8, or 0.
+fn silent(
+    frame: &[u8],
+    points: &[u8],
+    columns: &[u8],
+    journal: &[u8],
+    used: usize,
+    axes: Axes,
+    settings: Settings,
+    reply: &[u8],
+) -> u16
+    ensures { λ r. ⌜ r ≡ silentOf (callOf (now (frame .entry)) (now (points .entry)) (now (columns .entry)) (now (journal .entry)) used axes settings (now (reply .entry))) ⌝ }
+{
+    let station = settings.station;
+    let fitted = settings.fitted;
+    if reply.len() < 1024 {
+        return 1;
+    }
+    if !fits_points(points) {
+        return 2;
+    }
+    if columns.len() != 700 {
+        return 3;
+    }
+    if !fits_journal(journal, used, points.len() / 40) {
+        return 4;
+    }
+    if !fits_axes(axes, fitted) {
+        return 5;
+    }
+    heard(frame, station)
+}
+
+// Tests 6, 7 and 8.
+fn heard(frame: &[u8], station: u8) -> u16
+    ensures { λ r. ⌜ r ≡ heardOf (frameCall (now (frame .entry)) station) ⌝ }
+{
+    if !is_shaped(frame) {
+        return 6;
+    }
+    if !passes_sum(frame) {
+        return 7;
+    }
+    if !is_ours(frame, station) {
+        return 8;
+    }
+    0
+}
+
+// The ten bytes of an error reply.
+fn refuse(reply: &mut [u8], station: u8, number: u16, kept: Kept) -> Answered
+    requires { ⌜ 10 ≤ length (now reply) ⌝ }
+    ensures { λ r. ⌜ (r .number ≡ number) × (r .length ≡ 10) × (r .kept ≡ kept) × (now (reply .exit) ≡ laid (now (reply .entry)) 0 (errorOf station number)) ⌝ }
+{
+    let length = error_reply(reply, station, number);
+    Answered {
+        number,
+        length,
+        kept,
+    }
+}
+
+// One handler for each order, and the refusals 101 to 107, once no refusal without a reply holds.
+fn carry_out(
+    asked: Asked,
+    frame: &[u8],
+    points: &mut [u8],
+    columns: &mut [u8],
+    journal: &mut [u8],
+    kept: Kept,
+    axes: Axes,
+    settings: Settings,
+    reply: &mut [u8],
+) -> Answered
+    requires { ⌜ silentOf (callOf (now frame) (now points) (now columns) (now journal) (kept .used) axes settings (now reply)) ≡ 0 ⌝ }
+    requires { ⌜ asked ≡ askedOf (heldIn (now points)) (settings .fitted) (now frame) ⌝ }
+    ensures { λ r. ⌜ Answers (answerOf (callOf (now (frame .entry)) (now (points .entry)) (now (columns .entry)) (now (journal .entry)) (kept .used) axes settings (now (reply .entry)))) r (now (points .exit)) (now (columns .exit)) (now (journal .exit)) (now (reply .entry)) (now (reply .exit)) ⌝ }
+{
+    let n = points.len() / 40;
+    let used = kept.used;
+    let station = settings.station;
+    let fitted = settings.fitted;
+    let records = axes.records;
+    let rest = content(frame);
+    match asked {
+        Asked::UnknownMessage => refuse(reply, station, 101, kept),
+        Asked::NotDigits => refuse(reply, station, 102, kept),
+        Asked::WrongLength => refuse(reply, station, 103, kept),
+        Asked::WrongProgram => refuse(reply, station, 104, kept),
+        Asked::CountZero => refuse(reply, station, 105, kept),
+        Asked::NotHeld => refuse(reply, station, 106, kept),
+        Asked::WrongPattern => refuse(reply, station, 107, kept),
+        Asked::TestCall => accept(reply_same(reply, station, frame, 13), used),
+        Asked::CountPoints => accept(reply_count(reply, station, frame, points, n), used),
+        Asked::ListPoints { start, count } => {
+            accept(
+                reply_list(reply, station, frame, points, start, count),
+                used,
+            )
+        }
+        Asked::ReadColumns { start, count } => {
+            accept(
+                reply_columns(reply, station, frame, columns, start, count),
+                used,
+            )
+        }
+        Asked::AxisStatus { pattern } => {
+            accept(
+                reply_axes(reply, station, frame, pattern & fitted, records),
+                used,
+            )
+        }
+        Asked::WritePoints { start, count } => {
+            let left = write_points(points, journal, used, &rest[6..], start, count, n);
+            accept(reply_same(reply, station, frame, 9), left)
+        }
+        Asked::ClearPoints { start, count } => {
+            let left = clear_points(points, journal, used, start, count, n);
+            accept(reply_same(reply, station, frame, 3), left)
+        }
+        Asked::ChangeColumns { start, count } => {
+            let left = change_columns(columns, journal, used, &rest[7..], start, count, n);
+            accept(reply_same(reply, station, frame, 3), left)
+        }
+    }
+}
+
+fn accept(long: usize, used: usize) -> Answered
+    ensures { λ r. ⌜ (r .number ≡ 0) × (r .length ≡ long) × (r .kept .used ≡ used) ⌝ }
+{
+    Answered {
+        number: 0,
+        length: long,
+        kept: Kept { used },
+    }
+}
+
+// The answer to a frame: any bytes, any areas, any lengths.
+pub fn answer(
+    frame: &[u8],
+    points: &mut [u8],
+    columns: &mut [u8],
+    journal: &mut [u8],
+    kept: Kept,
+    axes: Axes,
+    settings: Settings,
+    reply: &mut [u8],
+) -> Answered
+    ensures { λ r. ⌜ Answers (answerOf (callOf (now (frame .entry)) (now (points .entry)) (now (columns .entry)) (now (journal .entry)) (kept .used) axes settings (now (reply .entry)))) r (now (points .exit)) (now (columns .exit)) (now (journal .exit)) (now (reply .entry)) (now (reply .exit)) ⌝ }
+{
+    let used = kept.used;
+    let fitted = settings.fitted;
+    let number = silent(frame, points, columns, journal, used, axes, settings, reply);
+    if number != 0 {
+        return Answered {
+            number,
+            length: 0,
+            kept,
+        };
+    }
+    let asked = judge(frame, points.len() / 40, fitted);
+    carry_out(
+        asked,
+        frame,
+        points,
+        columns,
+        journal,
+        kept,
+        axes,
+        settings,
+        reply,
+    )
+}
+
+// The local call from the service panel: the last entry's bytes go back. Any areas, any lengths.
+pub fn step_back(points: &mut [u8], columns: &mut [u8], journal: &mut [u8], kept: Kept) -> Back
+    ensures { λ r. ⌜ StepsBack (backOf (backCall (now (points .entry)) (now (columns .entry)) (now (journal .entry)) (kept .used))) r (now (points .exit)) (now (columns .exit)) (now (journal .exit)) ⌝ }
+{
+    let used = kept.used;
+    let number = back_refusal(points, columns, journal, used);
+    if number != 0 {
+        return Back { number, kept };
+    }
+    let n = points.len() / 40;
+    let left = journal::step_back(points, columns, journal, used, n);
+    Back {
+        number: 0,
+        kept: Kept { used: left },
+    }
+}
+
+// Tests 2, 3, 4, then 9.
+fn back_refusal(points: &[u8], columns: &[u8], journal: &[u8], used: usize) -> u16
+    ensures { λ r. ⌜ r ≡ backRefusalOf (backCall (now (points .entry)) (now (columns .entry)) (now (journal .entry)) used) ⌝ }
+{
+    if !fits_points(points) {
+        return 2;
+    }
+    if columns.len() != 700 {
+        return 3;
+    }
+    if !fits_journal(journal, used, points.len() / 40) {
+        return 4;
+    }
+    if used == 0 {
+        return 9;
+    }
+    0
+}
