@@ -6,12 +6,14 @@
 
 pub mod areas;
 pub mod bench;
+pub mod differential;
 pub mod digits;
 pub mod frames;
 pub mod journal;
 pub mod link;
 pub mod messages;
 mod replies;
+pub mod vectors;
 
 pub use areas::Board;
 pub use frames::Found;

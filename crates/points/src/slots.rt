@@ -91,14 +91,14 @@ fn wide(b: u8) -> u32
     b as u32
 }
 
-fn two_at(s: &[u8], at: usize) -> u16
+pub fn two_at(s: &[u8], at: usize) -> u16
     requires { ⌜ at + 1 < length (now s) ⌝ }
     ensures { λ r. ⌜ r ≡ twoAt (now (s .entry)) at ⌝ }
 {
     (wide(s[at]) * 256 + wide(s[at + 1])) as u16
 }
 
-fn four_at(s: &[u8], at: usize) -> u32
+pub fn four_at(s: &[u8], at: usize) -> u32
     requires { ⌜ at + 3 < length (now s) ⌝ }
     ensures { λ r. ⌜ r ≡ fourAt (now (s .entry)) at ⌝ }
 {

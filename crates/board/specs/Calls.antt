@@ -1,0 +1,37 @@
+-- The C calls (include/cabinet.h): what stands behind each number that is handed over or back.
+use Prim.Native.Nat.{ℕ, _-_}
+use Rattle.frames.specs.declared.finder.Found.{Found}
+use Rattle.frames.specs.declared.finder.Found.the-variants.{Frame, Nothing, Wait, TooLong}
+use Rattle.link.specs.declared.Settings.{Settings}
+use Rattle.link.specs.declared.Answered.{Answered}
+use Rattle.link.specs.declared.Back.{Back}
+
+-- document 01, "Finding a frame in the received bytes": 0 a frame, 1 nothing, 2 wait, 3 too long
+abbrev pub codeOf : Found → ℕ
+codeOf (Frame start used) = 0
+codeOf (Nothing drop) = 1
+codeOf (Wait drop) = 2
+codeOf (TooLong drop) = 3
+
+-- where the frame starts and how many bytes it has; "With no frame the part is empty."
+abbrev pub startOf : Found → ℕ
+startOf (Frame start used) = start
+startOf (Nothing drop) = 0
+startOf (Wait drop) = 0
+startOf (TooLong drop) = 0
+
+abbrev pub lengthOf : Found → ℕ
+lengthOf (Frame start used) = used - start
+lengthOf (Nothing drop) = 0
+lengthOf (Wait drop) = 0
+lengthOf (TooLong drop) = 0
+
+-- the settings, and what a call gives back
+abbrev pub settingsOf : ℕ → ℕ → Settings
+settingsOf fitted station = record { station = station; fitted = fitted }
+
+abbrev pub answeredOf : ℕ → ℕ → ℕ → Answered
+answeredOf number length used = record { number = number; length = length; kept = record { used = used } }
+
+abbrev pub backedOf : ℕ → ℕ → Back
+backedOf number used = record { number = number; kept = record { used = used } }

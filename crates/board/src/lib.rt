@@ -1,0 +1,109 @@
+// The calls that the board's C host makes (include/cabinet.h).
+use axes::read_axes;
+use frames::finder::Found;
+use frames::finder::find;
+use link::Kept;
+use link::Settings;
+use link::answer;
+use link::step_back;
+ghost use mathlib.Core.Path.{_≡_};
+ghost use Rattle.frames.specs.Find.{findIn, dropOf};
+ghost use Rattle.axes.specs.Axes.{axesIn};
+ghost use Rattle.link.specs.Answer.{answerOf, backOf};
+ghost use Rattle.link.specs.Contract.{callOf, backCall, Answers, StepsBack};
+ghost use Rattle.board.specs.Calls.{codeOf, startOf, lengthOf, settingsOf, answeredOf, backedOf};
+
+// 0 a frame, 1 nothing, 2 wait, 3 too long.
+#[no_mangle]
+pub extern "C" fn cabinet_receive(
+    received: &[u8],
+    start: &mut usize,
+    length: &mut usize,
+    drop: &mut usize,
+) -> u8
+    ensures { λ r. ⌜ (r ≡ codeOf (findIn (now (received .entry))))
+        × (now (start .exit) ≡ startOf (findIn (now (received .entry))))
+        × (now (length .exit) ≡ lengthOf (findIn (now (received .entry))))
+        × (now (drop .exit) ≡ dropOf (findIn (now (received .entry)))) ⌝ }
+{
+    let found = find(received);
+    *start = 0;
+    *length = 0;
+    match found {
+        Found::Frame { start: s, used: u } => {
+            *start = s;
+            *length = u - s;
+            *drop = u;
+            0
+        }
+        Found::Nothing { drop: d } => {
+            *drop = d;
+            1
+        }
+        Found::Wait { drop: d } => {
+            *drop = d;
+            2
+        }
+        Found::TooLong { drop: d } => {
+            *drop = d;
+            3
+        }
+    }
+}
+
+// The refusal number, 0 where accepted.
+#[no_mangle]
+pub extern "C" fn cabinet_answer(
+    frame: &[u8],
+    points: &mut [u8],
+    columns: &mut [u8],
+    journal: &mut [u8],
+    used: &mut usize,
+    axes: &[u8],
+    fitted: u8,
+    station: u8,
+    reply: &mut [u8],
+    length: &mut usize,
+) -> u16
+    ensures { λ r. ⌜ Answers
+        (answerOf (callOf (now (frame .entry)) (now (points .entry)) (now (columns .entry)) (now (journal .entry)) (now (used .entry)) (axesIn (now (axes .entry))) (settingsOf fitted station) (now (reply .entry))))
+        (answeredOf r (now (length .exit)) (now (used .exit)))
+        (now (points .exit)) (now (columns .exit)) (now (journal .exit)) (now (reply .entry)) (now (reply .exit)) ⌝ }
+{
+    let settings = Settings { station, fitted };
+    let kept = Kept { used: *used };
+    let answered = answer(
+        frame,
+        points,
+        columns,
+        journal,
+        kept,
+        read_axes(axes),
+        settings,
+        reply,
+    );
+    let after = answered.kept;
+    *used = after.used;
+    *length = answered.length;
+    answered.number
+}
+
+// The refusal number, 0 where a write was taken back.
+#[no_mangle]
+pub extern "C" fn cabinet_step_back(
+    points: &mut [u8],
+    columns: &mut [u8],
+    journal: &mut [u8],
+    used: &mut usize,
+) -> u16
+    ensures { λ r. ⌜ StepsBack
+        (backOf (backCall (now (points .entry)) (now (columns .entry)) (now (journal .entry)) (now (used .entry))))
+        (backedOf r (now (used .exit)))
+        (now (points .exit)) (now (columns .exit)) (now (journal .exit)) ⌝ }
+{
+    let kept = Kept { used: *used };
+    let back = step_back(points, columns, journal, kept);
+    let after = back.kept;
+    *used = after.used;
+    back.number
+}

@@ -1,0 +1,168 @@
+/*
+ * bench_listing.c: plays document 01's bench listing through cabinet.h and compares every byte.
+ *
+ * The input is received in pieces of every length, found, answered, then stepped back and queried.
+ * Exits 0 where all is as the listing says, 1 at the first difference.
+ */
+#include "cabinet.h"
+
+#include <stdio.h>
+#include <string.h>
+
+enum { POINTS_HELD = 500, JOURNAL = 32768, STATION = 0x99, FITTED = 0xFF, GUARD = 0xEE };
+
+static const char input[] = "!99200001234567829\r\n"
+                            "!9924400100103001E001E00640000C350FFFFFFFFF3\r\n"
+                            "!99299@@\r\n";
+static const char output[] = "#9920000123456782B\r\n#9924400100151\r\n&991012A\r\n";
+
+/* Point 1 after the second frame: axes 1 and 2, 0.30 G both, 100 mm/sec, 50.000 and -0.001 mm. */
+static const uint8_t point_1[CABINET_SLOT] = {0x03, 0, 0, 30, 0, 30, 0, 100,
+                                              0x00, 0x00, 0xC3, 0x50, 0xFF, 0xFF, 0xFF, 0xFF};
+
+/* The entry of the second frame: tag, length 2+40, start 1, and the old slot, which was zero. */
+static const uint8_t entry[5] = {0x50, 0, 42, 0, 1};
+
+static uint8_t points[CABINET_SLOT * POINTS_HELD];
+static uint8_t columns[CABINET_COLUMNS];
+static uint8_t journal[JOURNAL];
+static uint8_t axes[CABINET_AXES];
+static uint8_t reply[CABINET_REPLY];
+static size_t used;
+
+/* Received and not yet dropped; the replies so far. */
+static uint8_t line[CABINET_LONGEST_FRAME];
+static size_t held;
+static uint8_t sent[256];
+static size_t sent_length;
+
+static int failed(const char *what, size_t piece)
+{
+    fprintf(stderr, "bench listing, pieces of %lu: %s\n", (unsigned long)piece, what);
+    return 1;
+}
+
+/* Whether the area begins with these bytes and is zero after them. */
+static int is_then_zero(const uint8_t *area, size_t area_length, const uint8_t *bytes, size_t length)
+{
+    size_t i;
+    if (memcmp(area, bytes, length) != 0)
+        return 0;
+    for (i = length; i < area_length; i++)
+        if (area[i] != 0)
+            return 0;
+    return 1;
+}
+
+/* Points, journal and used length are as after the write (1) or fresh (0); columns are fresh. */
+static int areas_are(int written)
+{
+    return is_then_zero(points, sizeof points, point_1, written ? sizeof point_1 : 0) &&
+           is_then_zero(columns, sizeof columns, columns, 0) &&
+           is_then_zero(journal, sizeof journal, entry, written ? sizeof entry : 0) &&
+           is_then_zero(axes, sizeof axes, axes, 0) && used == (written ? 45u : 0u);
+}
+
+static void start_fresh(void)
+{
+    memset(points, 0, sizeof points);
+    memset(columns, 0, sizeof columns);
+    memset(journal, 0, sizeof journal);
+    memset(axes, 0, sizeof axes);
+    used = 0;
+    held = 0;
+    sent_length = 0;
+}
+
+/* Answers one frame; the reply stands at the front of the reply area, and nothing beyond it. */
+static uint16_t answer(const uint8_t *frame, size_t length, size_t *reply_length)
+{
+    uint16_t number;
+    size_t i;
+    memset(reply, GUARD, sizeof reply);
+    number = cabinet_answer(frame, length, points, sizeof points, columns, sizeof columns,
+                            journal, sizeof journal, &used, axes, sizeof axes, FITTED, STATION,
+                            reply, sizeof reply, reply_length);
+    for (i = *reply_length; i < sizeof reply; i++)
+        if (reply[i] != GUARD)
+            *reply_length = sizeof reply + 1; /* no reply is so long */
+    return number;
+}
+
+/* Takes more bytes from the line and answers every frame that is whole; 0 where something is wrong. */
+static int receive(const uint8_t *bytes, size_t count)
+{
+    uint8_t found;
+    memcpy(line + held, bytes, count);
+    held += count;
+    do {
+        size_t start, length, drop, reply_length;
+        found = cabinet_receive(line, held, &start, &length, &drop);
+        if (drop > held || (found != CABINET_FRAME && (start != 0 || length != 0)))
+            return 0;
+        if (found == CABINET_FRAME) {
+            if (start + length != drop)
+                return 0;
+            answer(line + start, length, &reply_length);
+            if (reply_length > sizeof sent - sent_length)
+                return 0;
+            memcpy(sent + sent_length, reply, reply_length);
+            sent_length += reply_length;
+        }
+        held -= drop;
+        memmove(line, line + drop, held);
+    } while (found == CABINET_FRAME || found == CABINET_TOO_LONG);
+    return 1;
+}
+
+/* One command whose whole reply and number are known. */
+static int answers(const char *command, uint16_t number, const char *expected)
+{
+    size_t length;
+    uint16_t given = answer((const uint8_t *)command, strlen(command), &length);
+    return given == number && length == strlen(expected) && memcmp(reply, expected, length) == 0;
+}
+
+static int step_back(void)
+{
+    return cabinet_step_back(points, sizeof points, columns, sizeof columns,
+                             journal, sizeof journal, &used);
+}
+
+/* The whole listing in pieces of one length, then the step back and the queries. */
+static int play(size_t piece)
+{
+    size_t at, total = sizeof input - 1;
+    start_fresh();
+    for (at = 0; at < total; at += piece)
+        if (!receive((const uint8_t *)input + at, total - at < piece ? total - at : piece))
+            return failed("finder", piece);
+    if (held != 0)
+        return failed("bytes left over", piece);
+    if (sent_length != sizeof output - 1 || memcmp(sent, output, sent_length) != 0)
+        return failed("output", piece);
+    if (!areas_are(1))
+        return failed("areas after the listing", piece);
+    if (!answers("!9920900100555\r\n", 7, "") || !areas_are(1))
+        return failed("wrong SC", piece);
+    if (!answers("!99209001005@@\r\n", 0, "#9920900100103001E001E00640000C350FFFFFFFFF6\r\n"))
+        return failed("query before the step back", piece);
+    if (step_back() != 0 || !areas_are(0))
+        return failed("step back", piece);
+    if (!answers("!9920900100554\r\n", 0, "#99209000C0\r\n") || !areas_are(0))
+        return failed("query after the step back", piece);
+    if (step_back() != 9 || !areas_are(0))
+        return failed("step back with nothing left", piece);
+    return 0;
+}
+
+int main(void)
+{
+    size_t piece;
+    for (piece = 1; piece < sizeof input; piece++)
+        if (play(piece) != 0)
+            return 1;
+    printf("bench listing: every byte as document 01 has it, in pieces of 1 to %lu\n",
+           (unsigned long)(sizeof input - 1));
+    return 0;
+}

@@ -1,0 +1,679 @@
+/*
+ * plain.c: the board's three calls, written plainly by hand from document 01 and document 000.
+ *
+ * No heap and no second buffers: replies are written where they are lent, old bytes go straight into
+ * the journal. A frame is read once for its sum and once for its fields. Any bytes and any lengths
+ * may be handed over: every length is tested before a byte of its area is touched.
+ */
+#include "plain.h"
+
+#include <string.h>
+
+enum {
+    SLOT = 40,
+    MOST_POINTS_LENGTH = 60000,
+    COLUMNS_LENGTH = 700,
+    FIRST_COLUMN = 300,
+    LAST_COLUMN = 999,
+    AXES = 8,
+    RECORD = 9,
+    SHORTEST_FRAME = 10,
+    LONGEST_FRAME = 1023,
+    LONGEST_REPLY = 1024,
+    ID_AT = 3,
+    CONTENT_AT = 6,
+    END = 4, /* SC, CR, LF */
+    POINTS_TAG = 0x50,
+    COLUMNS_TAG = 0x53,
+    ENTRY_HEAD = 5, /* tag, length, start number */
+    ENTRY_START = 2, /* the start number is part of the length */
+    MOST_ENTRY_COLUMNS = 255,
+    JOURNAL_MORE = 300, /* the least journal is longer than the points by this */
+    MOST_JOURNAL = 65536
+};
+
+/* ---- digits ---- */
+
+/* A digit's value with bit 7 set; 0 for any other byte, so lower case is no digit. */
+static const uint8_t digit[256] = {
+    ['0'] = 0x80, ['1'] = 0x81, ['2'] = 0x82, ['3'] = 0x83, ['4'] = 0x84, ['5'] = 0x85,
+    ['6'] = 0x86, ['7'] = 0x87, ['8'] = 0x88, ['9'] = 0x89, ['A'] = 0x8A, ['B'] = 0x8B,
+    ['C'] = 0x8C, ['D'] = 0x8D, ['E'] = 0x8E, ['F'] = 0x8F
+};
+
+static const uint8_t digit_of[16] = {'0', '1', '2', '3', '4', '5', '6', '7',
+                                     '8', '9', 'A', 'B', 'C', 'D', 'E', 'F'};
+
+/* One bits of a digit. */
+static const uint8_t ones_of[16] = {0, 1, 1, 2, 1, 2, 2, 3, 1, 2, 2, 3, 2, 3, 3, 4};
+
+static unsigned ones(unsigned pattern)
+{
+    return (unsigned)ones_of[pattern >> 4] + ones_of[pattern & 15];
+}
+
+/* The byte two digits stand for; they are known to be digits. */
+static uint8_t two(const uint8_t *field)
+{
+    return (uint8_t)(digit[field[0]] << 4 | (digit[field[1]] & 15));
+}
+
+/* The number three digits stand for. */
+static unsigned three(const uint8_t *field)
+{
+    return (unsigned)(digit[field[0]] & 15) << 8 | two(field + 1);
+}
+
+/* `count` bytes from twice as many digits. */
+static void take_bytes(uint8_t *to, const uint8_t *field, size_t count)
+{
+    size_t i;
+    for (i = 0; i < count; i++)
+        to[i] = two(field + 2 * i);
+}
+
+/* A number of two bytes, high byte first. */
+static unsigned pair(const uint8_t *bytes)
+{
+    return (unsigned)bytes[0] << 8 | bytes[1];
+}
+
+/* ---- replies ---- */
+
+/* A reply being written, and the sum of what stands in it so far. */
+struct text {
+    uint8_t *at;
+    unsigned sum;
+};
+
+static void put(struct text *text, unsigned byte)
+{
+    *text->at++ = (uint8_t)byte;
+    text->sum += byte;
+}
+
+static void put_two(struct text *text, unsigned byte)
+{
+    put(text, digit_of[byte >> 4]);
+    put(text, digit_of[byte & 15]);
+}
+
+static void put_three(struct text *text, unsigned number)
+{
+    put(text, digit_of[number >> 8 & 15]);
+    put_two(text, number & 255);
+}
+
+/* Two digits for each byte. The place and the sum are kept in registers on the way. */
+static void put_bytes(struct text *text, const uint8_t *bytes, size_t count)
+{
+    uint8_t *at = text->at, high, low;
+    unsigned sum = text->sum;
+    size_t i;
+    for (i = 0; i < count; i++, at += 2) {
+        high = digit_of[bytes[i] >> 4];
+        low = digit_of[bytes[i] & 15];
+        at[0] = high;
+        at[1] = low;
+        sum += (unsigned)high + low;
+    }
+    text->at = at;
+    text->sum = sum;
+}
+
+/* Bytes as they are. */
+static void put_same(struct text *text, const uint8_t *bytes, size_t count)
+{
+    uint8_t *at = text->at;
+    unsigned sum = text->sum;
+    size_t i;
+    for (i = 0; i < count; i++) {
+        at[i] = bytes[i];
+        sum += bytes[i];
+    }
+    text->at = at + count;
+    text->sum = sum;
+}
+
+/* SC, CR and LF; the reply's length. */
+static size_t close_reply(struct text *text, const uint8_t *reply)
+{
+    unsigned sc = text->sum & 255;
+    put_two(text, sc);
+    put(text, '\r');
+    put(text, '\n');
+    return (size_t)(text->at - reply);
+}
+
+static size_t error_reply(uint8_t *reply, uint8_t station, uint16_t number)
+{
+    struct text text = {reply, 0};
+    put(&text, '&');
+    put_two(&text, station);
+    put(&text, '1'); /* 101 to 107 */
+    put(&text, '0');
+    put(&text, digit_of[number - 100]);
+    return close_reply(&text, reply);
+}
+
+/* ---- areas ---- */
+
+/* The areas of a call that passed tests 2, 3 and 4. */
+struct areas {
+    uint8_t *points;
+    size_t held; /* N */
+    uint8_t *columns;
+    uint8_t *journal;
+    size_t journal_length;
+    size_t used;
+    size_t last; /* where the last entry begins, if there is one */
+};
+
+/* Whether the numbers from start to start+count-1 are among first to last. */
+static int is_held(size_t start, size_t count, size_t first, size_t last)
+{
+    return start >= first && start <= last && count <= last - start + 1;
+}
+
+/* Length of the well-formed entry at the front of `left` bytes, 0 where there is none. */
+static size_t entry_length(const uint8_t *entry, size_t left, size_t held)
+{
+    size_t follows, old, start;
+    int good = 0;
+    if (left < ENTRY_HEAD)
+        return 0;
+    follows = pair(entry + 1);
+    start = pair(entry + 3);
+    if (follows <= ENTRY_START || follows - ENTRY_START > left - ENTRY_HEAD)
+        return 0;
+    old = follows - ENTRY_START;
+    if (entry[0] == POINTS_TAG)
+        good = old % SLOT == 0 && is_held(start, old / SLOT, 1, held);
+    else if (entry[0] == COLUMNS_TAG)
+        good = old <= MOST_ENTRY_COLUMNS && is_held(start, old, FIRST_COLUMN, LAST_COLUMN);
+    return good ? ENTRY_HEAD + old : 0;
+}
+
+/* Whether the used part is whole well-formed entries; finds the last one. */
+static int walk_journal(struct areas *areas)
+{
+    size_t at = 0, length;
+    areas->last = 0;
+    while (at < areas->used) {
+        length = entry_length(areas->journal + at, areas->used - at, areas->held);
+        if (length == 0)
+            return 0;
+        areas->last = at;
+        at += length;
+    }
+    return 1;
+}
+
+/* Tests 2, 3 and 4, which both calls make; 0 where none holds. */
+static uint16_t test_areas(struct areas *areas, size_t points_length, size_t columns_length)
+{
+    if (points_length % SLOT != 0 || points_length < SLOT || points_length > MOST_POINTS_LENGTH)
+        return 2;
+    if (columns_length != COLUMNS_LENGTH)
+        return 3;
+    if (areas->journal_length < points_length + JOURNAL_MORE || areas->journal_length > MOST_JOURNAL)
+        return 4;
+    areas->held = points_length / SLOT;
+    return areas->used <= areas->journal_length && walk_journal(areas) ? 0 : 4;
+}
+
+/* Bytes of the oldest entries to be dropped, no more than needed, until `length` more fit. */
+static size_t to_drop(const struct areas *areas, size_t length)
+{
+    size_t dropped = 0;
+    while (areas->used - dropped + length > areas->journal_length)
+        dropped += ENTRY_HEAD - ENTRY_START + pair(areas->journal + dropped + 1);
+    return dropped;
+}
+
+/* Adds the entry that keeps `length` old bytes; what stands beyond it becomes 00. */
+static void keep_old(struct areas *areas, uint8_t tag, unsigned start,
+                     const uint8_t *old, size_t length)
+{
+    size_t dropped = to_drop(areas, ENTRY_HEAD + length);
+    size_t kept = areas->used - dropped;
+    uint8_t *entry = areas->journal + kept;
+    if (dropped > 0)
+        memmove(areas->journal, areas->journal + dropped, kept);
+    entry[0] = tag;
+    entry[1] = (uint8_t)((ENTRY_START + length) >> 8);
+    entry[2] = (uint8_t)(ENTRY_START + length);
+    entry[3] = (uint8_t)(start >> 8);
+    entry[4] = (uint8_t)start;
+    memcpy(entry + ENTRY_HEAD, old, length);
+    areas->used = kept + ENTRY_HEAD + length;
+    memset(areas->journal + areas->used, 0, areas->journal_length - areas->used);
+}
+
+/* Puts the last entry's old bytes back and removes it. */
+static void take_back(struct areas *areas)
+{
+    uint8_t *entry = areas->journal + areas->last;
+    size_t length = areas->used - areas->last - ENTRY_HEAD;
+    size_t start = pair(entry + 3);
+    uint8_t *place = entry[0] == POINTS_TAG ? areas->points + SLOT * (start - 1)
+                                            : areas->columns + (start - FIRST_COLUMN);
+    memcpy(place, entry + ENTRY_HEAD, length);
+    memset(entry, 0, areas->journal_length - areas->last);
+    areas->used = areas->last;
+}
+
+/* ---- frames ---- */
+
+/* Test 5: eight records within their limits, and a fitted axis. */
+static int axes_are_good(const uint8_t *axes, size_t axes_length, uint8_t fitted)
+{
+    size_t axis;
+    unsigned over = 0;
+    if (axes_length != AXES * RECORD || fitted == 0)
+        return 0;
+    for (axis = 0; axis < AXES; axis++) /* sensor, and the error code's high byte: at most 15 */
+        over |= (unsigned)(axes[RECORD * axis + 1] | axes[RECORD * axis + 2]) >> 4;
+    return over == 0;
+}
+
+/* Test 6. */
+static int has_shape(const uint8_t *frame, size_t length)
+{
+    return length >= SHORTEST_FRAME && length <= LONGEST_FRAME && frame[0] == '!' &&
+           frame[length - 2] == '\r' && frame[length - 1] == '\n';
+}
+
+/* Test 7; on the way, bit 7 of *digits says whether all content bytes are digits. */
+static int has_good_sc(const uint8_t *frame, size_t length, unsigned *digits)
+{
+    const uint8_t *sc = frame + length - END;
+    unsigned sum = 0, all = 0x80;
+    size_t i;
+    for (i = 0; i < CONTENT_AT; i++)
+        sum += frame[i];
+    for (i = CONTENT_AT; i < length - END; i++) {
+        sum += frame[i];
+        all &= digit[frame[i]];
+    }
+    *digits = all;
+    return (sc[0] == '@' && sc[1] == '@') ||
+           (sc[0] == digit_of[sum >> 4 & 15] && sc[1] == digit_of[sum & 15]);
+}
+
+/* Test 8. */
+static int has_station(const uint8_t *frame, uint8_t station)
+{
+    return frame[1] == digit_of[station >> 4] && frame[2] == digit_of[station & 15];
+}
+
+/* ---- messages ---- */
+
+enum {
+    TEST_CALL = 0x200,
+    POINT_COUNT = 0x208,
+    POINT_LIST = 0x209,
+    COLUMN_QUERY = 0x210,
+    AXIS_STATUS = 0x212,
+    POINT_WRITE = 0x244,
+    POINT_CLEAR = 0x246,
+    COLUMN_WRITE = 0x24E,
+    UNKNOWN = 0
+};
+
+/* What a frame asks. */
+struct asked {
+    unsigned message;
+    const uint8_t *content;
+    size_t length; /* of the content */
+    size_t start, count;
+};
+
+static unsigned message_of(const uint8_t *id)
+{
+    /* In three capital digits or not at all. */
+    unsigned all = digit[id[0]] & digit[id[1]] & digit[id[2]] & 0x80u;
+    unsigned message = three(id);
+    if (all == 0)
+        return UNKNOWN;
+    switch (message) {
+    case TEST_CALL: case POINT_COUNT: case POINT_LIST: case COLUMN_QUERY:
+    case AXIS_STATUS: case POINT_WRITE: case POINT_CLEAR: case COLUMN_WRITE:
+        return message;
+    default:
+        return UNKNOWN;
+    }
+}
+
+/*
+ * Whether exactly `count` points follow, each as long as its own pattern says (103). *faulty becomes 1
+ * where a pattern is 00 or has an unfitted axis (107).
+ */
+static int points_follow(const struct asked *asked, uint8_t fitted, int *faulty)
+{
+    size_t at = 6, point;
+    unsigned pattern;
+    for (point = 0; point < asked->count; point++) {
+        if (asked->length - at < 14)
+            return 0;
+        pattern = two(asked->content + at);
+        at += 14;
+        if (asked->length - at < 8 * ones(pattern))
+            return 0;
+        at += 8 * ones(pattern);
+        if (pattern == 0 || (pattern & ~(unsigned)fitted) != 0)
+            *faulty = 1;
+    }
+    return at == asked->length;
+}
+
+/* 105, 106, then 107; 0 where none holds. */
+static uint16_t judge_run(const struct asked *asked, size_t first, size_t last, int faulty)
+{
+    if (asked->count == 0)
+        return 105;
+    if (!is_held(asked->start, asked->count, first, last))
+        return 106;
+    return faulty ? 107 : 0;
+}
+
+/* 103 to 107 of 209H, 244H and 246H: start 3, count 3, and for 244H the points. */
+static uint16_t judge_points(struct asked *asked, size_t held, uint8_t fitted)
+{
+    int faulty = 0;
+    if (asked->length < 6)
+        return 103;
+    asked->start = three(asked->content);
+    asked->count = three(asked->content + 3);
+    if (asked->message == POINT_WRITE ? !points_follow(asked, fitted, &faulty) : asked->length != 6)
+        return 103;
+    return judge_run(asked, 1, held, faulty);
+}
+
+/* 103 to 106 of 210H and 24EH: program 2, start 3, count 2, and for 24EH two for each column. */
+static uint16_t judge_columns(struct asked *asked)
+{
+    if (asked->length < 7)
+        return 103;
+    asked->start = three(asked->content + 2);
+    asked->count = two(asked->content + 5);
+    if (asked->length != (asked->message == COLUMN_WRITE ? 7 + 2 * asked->count : 7))
+        return 103;
+    if (two(asked->content) != 0)
+        return 104;
+    return judge_run(asked, FIRST_COLUMN, LAST_COLUMN, 0);
+}
+
+/* 101 to 107; 0 where none holds. `digits` is what test 7 found of the content. */
+static uint16_t judge(struct asked *asked, unsigned digits, size_t held, uint8_t fitted)
+{
+    if (asked->message == UNKNOWN)
+        return 101;
+    if (digits == 0 && asked->message != TEST_CALL)
+        return 102;
+    switch (asked->message) {
+    case TEST_CALL:
+        return asked->length == 10 ? 0 : 103;
+    case POINT_COUNT:
+        return asked->length == 0 ? 0 : 103;
+    case AXIS_STATUS:
+        return asked->length == 2 ? 0 : 103;
+    case COLUMN_QUERY:
+    case COLUMN_WRITE:
+        return judge_columns(asked);
+    default:
+        return judge_points(asked, held, fitted);
+    }
+}
+
+/* ---- queries ---- */
+
+static void put_point_count(struct text *text, const struct areas *areas)
+{
+    const uint8_t *slot = areas->points, *end = areas->points + SLOT * areas->held;
+    unsigned count = 0;
+    for (; slot < end; slot += SLOT)
+        count += slot[0] != 0;
+    put_three(text, count);
+}
+
+static void put_point(struct text *text, size_t number, const uint8_t *slot)
+{
+    unsigned axes = slot[0];
+    const uint8_t *position = slot + 8;
+    put_three(text, (unsigned)number);
+    put_two(text, slot[0]);
+    put_bytes(text, slot + 2, 6);
+    for (; axes != 0; axes >>= 1, position += 4)
+        if (axes & 1)
+            put_bytes(text, position, 4);
+}
+
+/* The leading effective points that fit; their number goes in front once it is known. */
+static void put_point_list(struct text *text, const struct areas *areas, const struct asked *asked)
+{
+    const uint8_t *limit = text->at - CONTENT_AT + LONGEST_REPLY - END;
+    const uint8_t *slot = areas->points + SLOT * (asked->start - 1);
+    struct text front = *text;
+    size_t number, listed = 0;
+    text->at += 3;
+    for (number = asked->start; number < asked->start + asked->count; number++, slot += SLOT) {
+        if (slot[0] == 0)
+            continue;
+        if ((size_t)(limit - text->at) < 17 + 8 * ones(slot[0]))
+            break;
+        put_point(text, number, slot);
+        listed++;
+    }
+    front.sum = 0;
+    put_three(&front, (unsigned)listed);
+    text->sum += front.sum;
+}
+
+static void put_axes(struct text *text, const uint8_t *axes, unsigned pattern)
+{
+    const uint8_t *record = axes;
+    put_two(text, pattern);
+    for (; pattern != 0; pattern >>= 1, record += RECORD) {
+        if ((pattern & 1) == 0)
+            continue;
+        put_two(text, record[0]);
+        put(text, digit_of[record[1]]);
+        put_three(text, pair(record + 2));
+        put_bytes(text, record + 4, 5);
+    }
+}
+
+/* ---- writes ---- */
+
+/* One slot from a point of a 244H; what follows the point in the frame. */
+static const uint8_t *store_point(uint8_t *slot, const uint8_t *point)
+{
+    unsigned axes = two(point);
+    uint8_t *position = slot + 8;
+    slot[0] = (uint8_t)axes;
+    slot[1] = 0;
+    take_bytes(slot + 2, point + 2, 6);
+    point += 14;
+    for (; position < slot + SLOT; position += 4, axes >>= 1) {
+        if (axes & 1) {
+            take_bytes(position, point, 4);
+            point += 8;
+        } else {
+            memset(position, 0, 4);
+        }
+    }
+    return point;
+}
+
+static void write_points(struct areas *areas, const struct asked *asked)
+{
+    uint8_t *slot = areas->points + SLOT * (asked->start - 1);
+    const uint8_t *point = asked->content + 6;
+    size_t left;
+    keep_old(areas, POINTS_TAG, (unsigned)asked->start, slot, SLOT * asked->count);
+    for (left = asked->count; left > 0; left--, slot += SLOT)
+        point = store_point(slot, point);
+}
+
+static void clear_points(struct areas *areas, const struct asked *asked)
+{
+    uint8_t *slot = areas->points + SLOT * (asked->start - 1);
+    keep_old(areas, POINTS_TAG, (unsigned)asked->start, slot, SLOT * asked->count);
+    memset(slot, 0, SLOT * asked->count);
+}
+
+static void write_columns(struct areas *areas, const struct asked *asked)
+{
+    uint8_t *place = areas->columns + (asked->start - FIRST_COLUMN);
+    keep_old(areas, COLUMNS_TAG, (unsigned)asked->start, place, asked->count);
+    take_bytes(place, asked->content + 7, asked->count);
+}
+
+/* Does what is asked and puts the reply's content. */
+static void carry_out(struct text *text, struct areas *areas, const struct asked *asked,
+                      const uint8_t *axes, uint8_t fitted)
+{
+    switch (asked->message) {
+    case TEST_CALL:
+        put_same(text, asked->content, 10);
+        break;
+    case POINT_COUNT:
+        put_point_count(text, areas);
+        break;
+    case POINT_LIST:
+        put_point_list(text, areas, asked);
+        break;
+    case COLUMN_QUERY:
+        put_same(text, asked->content, 7);
+        put_bytes(text, areas->columns + (asked->start - FIRST_COLUMN), asked->count);
+        break;
+    case AXIS_STATUS:
+        put_axes(text, axes, two(asked->content) & (unsigned)fitted);
+        break;
+    case POINT_WRITE:
+        put_same(text, asked->content, 6);
+        write_points(areas, asked);
+        break;
+    case POINT_CLEAR:
+        clear_points(areas, asked);
+        break;
+    default:
+        write_columns(areas, asked);
+        break;
+    }
+}
+
+/* ---- the calls ---- */
+
+/* Where the first CR LF begins, or `length`. */
+static size_t find_pair(const uint8_t *bytes, size_t length)
+{
+    const uint8_t *end = bytes + length, *from = bytes, *cr;
+    while (end - from >= 2) {
+        cr = memchr(from, '\r', (size_t)(end - from) - 1);
+        if (cr == NULL)
+            break;
+        if (cr[1] == '\n')
+            return (size_t)(cr - bytes);
+        from = cr + 1;
+    }
+    return length;
+}
+
+uint8_t plain_receive(const uint8_t *received, size_t received_length,
+                      size_t *start, size_t *length, size_t *drop)
+{
+    const uint8_t *mark = received_length > 0 ? memchr(received, '!', received_length) : NULL;
+    size_t before, window, pair_at;
+    *start = 0;
+    *length = 0;
+    *drop = received_length;
+    if (mark == NULL)
+        return 1;
+    before = (size_t)(mark - received);
+    window = received_length - before;
+    if (window > LONGEST_FRAME)
+        window = LONGEST_FRAME;
+    pair_at = find_pair(mark, window);
+    if (pair_at < window) {
+        *start = before;
+        *length = pair_at + 2;
+        *drop = before + pair_at + 2;
+        return 0;
+    }
+    *drop = window == LONGEST_FRAME ? before + 1 : before;
+    return window == LONGEST_FRAME ? 3 : 2;
+}
+
+/* Tests 5 to 8; 0 where none holds. *digits is what test 7 finds of the content. */
+static uint16_t test_frame(const uint8_t *frame, size_t frame_length,
+                           const uint8_t *axes, size_t axes_length,
+                           uint8_t fitted, uint8_t station, unsigned *digits)
+{
+    if (!axes_are_good(axes, axes_length, fitted))
+        return 5;
+    if (!has_shape(frame, frame_length))
+        return 6;
+    if (!has_good_sc(frame, frame_length, digits))
+        return 7;
+    return has_station(frame, station) ? 0 : 8;
+}
+
+/* What a frame that passed tests 1 to 8 asks; its fields are read when it is judged. */
+static struct asked read_frame(const uint8_t *frame, size_t frame_length)
+{
+    struct asked asked = {message_of(frame + ID_AT), frame + CONTENT_AT,
+                          frame_length - CONTENT_AT - END, 0, 0};
+    return asked;
+}
+
+uint16_t plain_answer(const uint8_t *frame, size_t frame_length,
+                      uint8_t *points, size_t points_length,
+                      uint8_t *columns, size_t columns_length,
+                      uint8_t *journal, size_t journal_length, size_t *used,
+                      const uint8_t *axes, size_t axes_length,
+                      uint8_t fitted, uint8_t station,
+                      uint8_t *reply, size_t reply_area_length, size_t *reply_length)
+{
+    struct areas areas = {points, 0, columns, journal, journal_length, *used, 0};
+    struct text text = {reply, 0};
+    struct asked asked;
+    unsigned digits = 0;
+    uint16_t number;
+    *reply_length = 0;
+    if (reply_area_length < LONGEST_REPLY)
+        return 1;
+    number = test_areas(&areas, points_length, columns_length);
+    if (number == 0)
+        number = test_frame(frame, frame_length, axes, axes_length, fitted, station, &digits);
+    if (number != 0)
+        return number;
+    asked = read_frame(frame, frame_length);
+    number = judge(&asked, digits, areas.held, fitted);
+    if (number != 0) {
+        *reply_length = error_reply(reply, station, number);
+        return number;
+    }
+    put(&text, '#');
+    put_same(&text, frame + 1, CONTENT_AT - 1); /* station and message ID are the command's */
+    carry_out(&text, &areas, &asked, axes, fitted);
+    *reply_length = close_reply(&text, reply);
+    *used = areas.used;
+    return 0;
+}
+
+uint16_t plain_step_back(uint8_t *points, size_t points_length,
+                         uint8_t *columns, size_t columns_length,
+                         uint8_t *journal, size_t journal_length, size_t *used)
+{
+    struct areas areas = {points, 0, columns, journal, journal_length, *used, 0};
+    uint16_t number = test_areas(&areas, points_length, columns_length);
+    if (number != 0)
+        return number;
+    if (areas.used == 0)
+        return 9;
+    take_back(&areas);
+    *used = areas.used;
+    return 0;
+}

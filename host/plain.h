@@ -1,0 +1,37 @@
+/*
+ * plain.h: the three calls of cabinet.h, written plainly by hand in C from the documents.
+ *
+ * Parameters, numbers and replies are those of cabinet.h. Compiled with
+ *   -Dplain_receive=cabinet_receive -Dplain_answer=cabinet_answer -Dplain_step_back=cabinet_step_back
+ * it makes an archive that stands in for the board's own.
+ */
+#ifndef PLAIN_H
+#define PLAIN_H
+
+#include <stddef.h>
+#include <stdint.h>
+
+#ifdef __cplusplus
+extern "C" {
+#endif
+
+uint8_t plain_receive(const uint8_t *received, size_t received_length,
+                      size_t *start, size_t *length, size_t *drop);
+
+uint16_t plain_answer(const uint8_t *frame, size_t frame_length,
+                      uint8_t *points, size_t points_length,
+                      uint8_t *columns, size_t columns_length,
+                      uint8_t *journal, size_t journal_length, size_t *used,
+                      const uint8_t *axes, size_t axes_length,
+                      uint8_t fitted, uint8_t station,
+                      uint8_t *reply, size_t reply_area_length, size_t *reply_length);
+
+uint16_t plain_step_back(uint8_t *points, size_t points_length,
+                         uint8_t *columns, size_t columns_length,
+                         uint8_t *journal, size_t journal_length, size_t *used);
+
+#ifdef __cplusplus
+}
+#endif
+
+#endif

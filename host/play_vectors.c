@@ -1,0 +1,157 @@
+/*
+ * play_vectors.c: plays the second program's vectors (second/README.md, "Vectors") through cabinet.h.
+ *
+ * Reads operations from standard input and writes a line for each call; what it writes must be the
+ * vectors' stdout byte for byte. Exits 2 where the operations are malformed.
+ */
+#include "cabinet.h"
+
+#include <stdio.h>
+#include <stdlib.h>
+#include <string.h>
+
+enum { POINTS, COLUMNS, JOURNAL, REPLY, AXES, PARTS };
+
+static uint8_t points[60000], columns[720], journal[65600], reply[1100], axes[80];
+static uint8_t *const area[PARTS] = {points, columns, journal, reply, axes};
+static const size_t most[PARTS] = {sizeof points, sizeof columns, sizeof journal, sizeof reply,
+                                   sizeof axes};
+static size_t lent[PARTS];
+static size_t used;
+static uint8_t fitted, station;
+
+static uint8_t operations[262144];
+static size_t at, end;
+
+static void malformed(void)
+{
+    fprintf(stderr, "malformed operation before byte %lu\n", (unsigned long)at);
+    exit(2);
+}
+
+/* The next `count` bytes. */
+static const uint8_t *take(size_t count)
+{
+    const uint8_t *taken = operations + at;
+    if (count > end - at)
+        malformed();
+    at += count;
+    return taken;
+}
+
+/* The next number of `width` bytes, high byte first. */
+static uint64_t number(size_t width)
+{
+    const uint8_t *bytes = take(width);
+    uint64_t value = 0;
+    while (width-- > 0)
+        value = value << 8 | *bytes++;
+    return value;
+}
+
+static size_t part(void)
+{
+    size_t named = (size_t)number(1);
+    if (named >= PARTS)
+        malformed();
+    return named;
+}
+
+static void lend(size_t named, size_t length)
+{
+    if (length > most[named])
+        malformed();
+    lent[named] = length;
+}
+
+static void board(void)
+{
+    size_t named;
+    for (named = 0; named < PARTS; named++)
+        memset(area[named], named == REPLY ? 0xEE : 0, most[named]);
+    lend(POINTS, 40 * (size_t)number(2));
+    fitted = (uint8_t)number(1);
+    station = (uint8_t)number(1);
+    lend(JOURNAL, (size_t)number(4));
+    lend(COLUMNS, 700);
+    lend(REPLY, 1024);
+    lend(AXES, 72);
+    used = 0;
+}
+
+static void spoil(void)
+{
+    size_t named = part(), offset = (size_t)number(4);
+    if (offset >= most[named])
+        malformed();
+    area[named][offset] = (uint8_t)number(1);
+}
+
+/* Digests of the first `count` parts, and the line's end. */
+static void print_digests(size_t count)
+{
+    size_t named, i;
+    for (named = 0; named < count; named++) {
+        uint64_t h = 0;
+        for (i = 0; i < lent[named]; i++)
+            h = (h * 31 + area[named][i] + 1) % 4294967291u;
+        printf(" %08lX", (unsigned long)h);
+    }
+    printf("\n");
+}
+
+static void answer(void)
+{
+    size_t length = (size_t)number(2), reply_length;
+    const uint8_t *frame = take(length);
+    unsigned given = cabinet_answer(frame, length, points, lent[POINTS], columns, lent[COLUMNS],
+                                    journal, lent[JOURNAL], &used, axes, lent[AXES],
+                                    fitted, station, reply, lent[REPLY], &reply_length);
+    printf("F %u %lu %lu", given, (unsigned long)reply_length, (unsigned long)used);
+    print_digests(4);
+}
+
+static void step_back(void)
+{
+    unsigned given = cabinet_step_back(points, lent[POINTS], columns, lent[COLUMNS],
+                                       journal, lent[JOURNAL], &used);
+    printf("S %u %lu", given, (unsigned long)used);
+    print_digests(3);
+}
+
+static void find(void)
+{
+    size_t received_length = (size_t)number(2), start, length, drop;
+    const uint8_t *received = take(received_length);
+    unsigned found = cabinet_receive(received, received_length, &start, &length, &drop);
+    printf("R %u %lu %lu %lu\n", found, (unsigned long)start, (unsigned long)length,
+           (unsigned long)drop);
+}
+
+/* Plays one operation; 0 after the end. */
+static int play(void)
+{
+    size_t named;
+    switch ((int)number(1)) {
+    case 'B': board(); return 1;
+    case 'X': spoil(); return 1;
+    case 'U': used = (size_t)number(8); return 1;
+    case 'L': named = part(); lend(named, (size_t)number(4)); return 1;
+    case 'P': fitted = (uint8_t)number(1); station = (uint8_t)number(1); return 1;
+    case 'F': answer(); return 1;
+    case 'S': step_back(); return 1;
+    case 'R': find(); return 1;
+    case 'E': return 0;
+    default: malformed(); return 0;
+    }
+}
+
+int main(void)
+{
+    end = fread(operations, 1, sizeof operations, stdin);
+    while (play())
+        ;
+    if (at != end)
+        malformed();
+    return 0;
+}

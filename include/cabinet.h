@@ -1,0 +1,209 @@
+/*
+ * cabinet.h: the board's answers to the store's computer, for the board's C host.
+ *
+ * Three calls, on numbers and byte areas: finding a frame in the received bytes, answering one frame,
+ * and the service panel's step back. What they promise is document 01's; section names below are its.
+ *
+ * Link with libboard.a. C99 or later, or C++.
+ *
+ *
+ * THE AREAS
+ *
+ *   points     40*N bytes, N from 1 to 1,500: points 1 to N, a slot of 40 bytes each. N is the area's
+ *              length over 40 and isn't handed over. A slot holds axis pattern (1 byte; bit 0 for
+ *              axis 1; 00 means not effective), a zero byte, acceleration and deceleration (2 each, in
+ *              0.01 G), speed (2, in mm/sec) and eight positions (4 each, signed, in 0.001 mm), high
+ *              byte first.
+ *   columns    700 bytes: string columns 300 to 999 of program 00, one byte each.
+ *   journal    40*N+300 to 65,536 bytes, with a used length beside it. Its used part is whole entries,
+ *              oldest first: tag (50H points, 53H columns), a two-byte length of what follows, start
+ *              number (2), the old bytes of what was named.
+ *   axes       72 bytes: eight axis records of nine bytes, axis 1 first: status (1), sensor (1, 0 to
+ *              15), error code (2, 0 to 4,095), encoder (1), position (4, signed), high byte first.
+ *   reply      at least 1,024 bytes, where the reply is written.
+ *
+ * Fresh is all zero bytes in points, columns and journal, and used length 0.
+ *
+ *
+ * OWNERSHIP
+ *
+ *   - All areas belong to the host and are lent for the time of one call. Nothing is allocated, no
+ *     pointer is kept and nothing is remembered between calls.
+ *   - Every pointer points to as many bytes as its length says (or to one number) and is never null,
+ *     not even where the length is 0.
+ *   - An area or number that a call may write (points, columns, journal, reply, *used, *reply_length,
+ *     *start, *length, *drop) overlaps no other one handed to the same call. The frame may be a part of
+ *     the received bytes.
+ *   - Lengths and bytes may be any: a wrong length, a spoiled byte or a damaged frame is refused as
+ *     the table says, and nothing undefined is done.
+ *   - For the step back to give back what was there: start fresh, use the same areas throughout, hand
+ *     each call the used length the last one handed back, and let nothing else write them.
+ *   - Calls on different areas may run at the same time; calls on the same areas may not.
+ *
+ *
+ * REFUSAL NUMBERS, IN THE ORDER TESTED
+ *
+ * An accepted call has number 0. Each number is given exactly when its condition holds and none
+ * earlier does. The step back tests 2, 3, 4, then 9; answering a frame tests all but 9.
+ *
+ *   No.  When                                                        Reply  Left
+ *   ---  ----------------------------------------------------------  -----  ------------------------
+ *     1  reply area under 1,024                                      none   nothing written
+ *     2  points area not a multiple of 40 from 40 to 60,000          none   same
+ *     3  columns area isn't 700                                      none   same
+ *     4  journal length wrong, used length beyond it, or used part   none   same
+ *        not whole well-formed entries
+ *     5  not eight axis records, or a sensor or error code too       none   same
+ *        large, or no fitted axis
+ *     6  not '!' first, CR LF last, 10 to 1,023 bytes                none   same
+ *     7  SC neither true nor '@@'                                    none   same
+ *     8  station differs or isn't digits                             none   same
+ *     9  step back with used length 0                                none   same
+ *   101  message unknown                                             error  10 reply bytes written,
+ *                                                                           nothing else
+ *   102  a content byte isn't a digit (not 200H)                     error  same
+ *   103  content length isn't this message's                         error  same
+ *   104  program number not 00                                       error  same
+ *   105  count zero                                                  error  same
+ *   106  a number from start to start+count-1 not held               error  same
+ *   107  in 244H, a pattern 00 or with an unfitted axis              error  same
+ *
+ * An error reply is '&', station, the three digits of the number, SC, CR, LF.
+ *
+ *
+ * A HOST'S LOOP
+ *
+ *   static uint8_t points[CABINET_SLOT * 500], columns[CABINET_COLUMNS], journal[32768];
+ *   static uint8_t axes[CABINET_AXES], reply[CABINET_REPLY], line[2 * CABINET_LONGEST_FRAME];
+ *   static size_t used, held;                    // all fresh: zero
+ *
+ *   for (;;) {
+ *       uint8_t found;
+ *       held += serial_read(line + held, sizeof line - held);
+ *       do {
+ *           size_t start, length, drop, reply_length;
+ *           found = cabinet_receive(line, held, &start, &length, &drop);
+ *           if (found == CABINET_FRAME) {
+ *               motion_read(axes);
+ *               cabinet_answer(line + start, length, points, sizeof points, columns, sizeof columns,
+ *                              journal, sizeof journal, &used, axes, sizeof axes, 0xFF, 0x99,
+ *                              reply, sizeof reply, &reply_length);
+ *               if (reply_length > 0)
+ *                   serial_write(reply, reply_length);
+ *           }
+ *           held -= drop;                        // also where there is no frame
+ *           memmove(line, line + drop, held);
+ *       } while (found == CABINET_FRAME || found == CABINET_TOO_LONG);
+ *   }
+ *
+ * The receive buffer needs at least CABINET_LONGEST_FRAME bytes: then after "wait" there is always
+ * room for one more byte.
+ */
+#ifndef CABINET_H
+#define CABINET_H
+
+#include <stddef.h>
+#include <stdint.h>
+
+#ifdef __cplusplus
+extern "C" {
+#endif
+
+/* Lengths in bytes ("The areas", "Frame"). */
+#define CABINET_SLOT 40
+#define CABINET_MOST_POINTS 1500
+#define CABINET_COLUMNS 700
+#define CABINET_AXES 72
+#define CABINET_REPLY 1024
+#define CABINET_SHORTEST_FRAME 10
+#define CABINET_LONGEST_FRAME 1023
+#define CABINET_LEAST_JOURNAL(points_held) (CABINET_SLOT * (points_held) + 300)
+#define CABINET_MOST_JOURNAL 65536
+
+/* What cabinet_receive answers ("Finding a frame in the received bytes"). */
+#define CABINET_FRAME 0    /* a frame was found */
+#define CABINET_NOTHING 1  /* there is no '!' */
+#define CABINET_WAIT 2     /* there is a '!', its frame hasn't ended: come back with more bytes */
+#define CABINET_TOO_LONG 3 /* no CR LF in the 1,023 bytes from the '!' on */
+
+/*
+ * Finds the first frame in the received bytes.
+ *
+ *   received, received_length   the bytes received and not yet dropped, oldest first; not written
+ *   start, length   out: the frame is the *length bytes from received[*start] on, '!' first and CR LF
+ *                   last; both are 0 where there is no frame
+ *   drop            out: how many bytes at the front are used up or dropped, at most received_length:
+ *                     CABINET_FRAME     all up to the frame's end (*start + *length)
+ *                     CABINET_NOTHING   all
+ *                     CABINET_WAIT      what stood before the '!'
+ *                     CABINET_TOO_LONG  all up to and with the '!'
+ *
+ * Returns CABINET_FRAME, CABINET_NOTHING, CABINET_WAIT or CABINET_TOO_LONG. After CABINET_FRAME and
+ * CABINET_TOO_LONG, drop and call again: another frame may be there.
+ *
+ * A frame found may still be refused by cabinet_answer; it may have 3 to 1,023 bytes.
+ */
+uint8_t cabinet_receive(const uint8_t *received, size_t received_length,
+                        size_t *start, size_t *length, size_t *drop);
+
+/*
+ * Answers one frame: does what it asks, all of it, and writes the reply; or refuses it.
+ *
+ *   frame, frame_length           one whole frame, '!' to CR LF; not written
+ *   points, points_length         the points area; written by 244H and 246H
+ *   columns, columns_length       the columns area; written by 24EH
+ *   journal, journal_length       the journal; each accepted 244H, 246H or 24EH adds one entry, after
+ *                                 dropping oldest entries, and no more than needed, until it fits;
+ *                                 bytes beyond the used length are then 00
+ *   used            in and out: the journal's used length; a refused call and a query leave it
+ *   axes, axes_length             the eight axis records; not written
+ *   fitted          the fitted axes, bit 0 for axis 1; not 0
+ *   station         the board's station, two digits in a frame (99H for "99")
+ *   reply, reply_area_length      the reply area; bytes beyond the reply stay
+ *   reply_length    out: how many bytes of the reply area are the reply; 0 where there is none
+ *
+ * Returns 0 where the frame was accepted, else the refusal number (1 to 8: no reply; 101 to 107: the
+ * ten bytes of an error reply).
+ *
+ * Replies to accepted frames, each '#', station, message ID, content, SC, CR, LF, and the content's digits:
+ *
+ *   200H  test call                   the ten bytes unchanged                              20 bytes
+ *   208H  number of effective points  3                                                    13
+ *   209H  effective point query       number listed 3; for each: number 3, pattern 2,      13 to 1,024
+ *                                     acceleration, deceleration, speed 4, 8 for each axis
+ *   210H  string query                program 2, start 3, count 2, 2 for each column       19 to 527
+ *   212H  axis status                 pattern 2; for each axis: status 2, sensor 1,        12 to 140
+ *                                     error code 3, encoder 2, position 8
+ *   244H  point range write           start 3, count 3                                     16
+ *   246H  point clear                 none                                                 10
+ *   24EH  string change               none                                                 10
+ */
+uint16_t cabinet_answer(const uint8_t *frame, size_t frame_length,
+                        uint8_t *points, size_t points_length,
+                        uint8_t *columns, size_t columns_length,
+                        uint8_t *journal, size_t journal_length, size_t *used,
+                        const uint8_t *axes, size_t axes_length,
+                        uint8_t fitted, uint8_t station,
+                        uint8_t *reply, size_t reply_area_length, size_t *reply_length);
+
+/*
+ * Steps back: takes away the latest accepted write that the journal still holds.
+ *
+ *   points, points_length         the points area  } the last entry's old bytes
+ *   columns, columns_length       the columns area } are put back into one of them
+ *   journal, journal_length       the journal; loses its last entry, and bytes beyond the used length
+ *                                 are then 00
+ *   used            in and out: the journal's used length; a refused call leaves it
+ *
+ * Returns 0 where a write was taken back, else the refusal number: 2, 3, 4, or 9 where no write is
+ * left. There is no reply.
+ */
+uint16_t cabinet_step_back(uint8_t *points, size_t points_length,
+                           uint8_t *columns, size_t columns_length,
+                           uint8_t *journal, size_t journal_length, size_t *used);
+
+#ifdef __cplusplus
+}
+#endif
+
+#endif

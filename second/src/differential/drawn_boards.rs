@@ -1,0 +1,150 @@
+//! Drawn boards: from 1 to 1,500 points, journals from the least length on, fresh or in use.
+
+use super::calls::Settings;
+use super::compare::Lent;
+use super::dice::Dice;
+use crate::areas::{Board, AXES, COLUMNS, FIRST_COLUMN, LAST_COLUMN, MOST_POINTS, RECORD, SLOT};
+use crate::frames::LONGEST_REPLY;
+
+/// Numbers of points: small boards, those near the limits of a list, large ones.
+const SMALL: [usize; 14] = [1, 1, 2, 2, 3, 3, 4, 5, 6, 8, 10, 12, 13, 20];
+const MIDDLE: [usize; 8] = [36, 40, 41, 45, 46, 50, 64, 100];
+const LARGE: [usize; 8] = [150, 255, 256, 500, 999, 1_000, 1_499, 1_500];
+
+const LONGEST_JOURNAL: usize = 65_536;
+
+/// The least journal of a board with this many points.
+pub fn least_journal(points: usize) -> usize {
+    SLOT * points + 300
+}
+
+/// A sound board with its settings, records and reply area.
+pub fn lent(dice: &mut Dice) -> Lent {
+    let points = match dice.roll(12) {
+        0 => dice.pick(&LARGE),
+        1 => dice.between(1, MOST_POINTS),
+        2..=4 => dice.pick(&MIDDLE),
+        _ => dice.pick(&SMALL),
+    };
+    let mut board = Board::fresh(points, journal_length(dice, points));
+    if dice.one_in(3) {
+        use_points(dice, &mut board.points);
+        board.columns = dice.bytes(COLUMNS);
+    }
+    if dice.one_in(4) {
+        use_journal(dice, &mut board, points);
+    }
+    Lent { board, axes: axes(dice), settings: settings(dice), reply: reply(dice) }
+}
+
+/// How many calls a board gets: fewer where each compares many bytes.
+pub fn calls(dice: &mut Dice, lent: &Lent) -> usize {
+    match lent.board.points.len() + lent.board.journal.len() {
+        0..=12_000 => dice.between(50, 400),
+        _ => dice.between(20, 100),
+    }
+}
+
+fn journal_length(dice: &mut Dice, points: usize) -> usize {
+    let least = least_journal(points);
+    match dice.roll(24) {
+        0..=9 => least,
+        10..=15 => (least + dice.roll(60)).min(LONGEST_JOURNAL),
+        16..=21 => (least + dice.roll(2_000)).min(LONGEST_JOURNAL),
+        22 => dice.between(least, LONGEST_JOURNAL),
+        _ => LONGEST_JOURNAL,
+    }
+}
+
+/// Slots with patterns of one kind or many; the other bytes drawn.
+pub fn use_points(dice: &mut Dice, points: &mut [u8]) {
+    let kind = dice.roll(6);
+    // 35 points with 52 axes make a list of 1,024 bytes: 17 of two axes, or nearly so many.
+    let two_axes = dice.between(15, 19);
+    for (at, slot) in points.chunks_mut(SLOT).enumerate() {
+        dice.fill(slot);
+        slot[0] = match kind {
+            0 => 1 << dice.roll(AXES),
+            1 => 0xFF,
+            2 => dice.pick(&[0x03, 0x01, 0x05, 0x80]),
+            3 => dice.pick(&[0, 0, 0x01, 0xFF]),
+            4 if at < two_axes => 0x30,
+            4 => 0x40,
+            _ => dice.byte(),
+        };
+    }
+}
+
+/// Well-formed entries of drawn bytes, and anything beyond the used length.
+fn use_journal(dice: &mut Dice, board: &mut Board, points: usize) {
+    if dice.one_in(2) {
+        dice.fill(&mut board.journal);
+    }
+    let most = dice.between(0, board.journal.len());
+    while let Some(entry) = entry(dice, points, most - board.used) {
+        board.journal[board.used..board.used + entry.len()].copy_from_slice(&entry);
+        board.used += entry.len();
+    }
+}
+
+/// An entry of at most `room` bytes; None ends the journal.
+fn entry(dice: &mut Dice, points: usize, room: usize) -> Option<Vec<u8>> {
+    let of_points = dice.one_in(2);
+    let (tag, first, last, unit, most) = match of_points {
+        true => (0x50, 1, points, SLOT, points),
+        false => (0x53, FIRST_COLUMN, LAST_COLUMN, 1, 255),
+    };
+    let start = dice.between(first, last);
+    let most = most.min(last - start + 1).min(room.checked_sub(5)? / unit);
+    if most == 0 {
+        return None;
+    }
+    let count = match dice.roll(4) {
+        0 => most,
+        _ => dice.between(1, most.min(40)),
+    };
+    let old = dice.bytes(count * unit);
+    let mut entry = vec![tag];
+    entry.extend(((2 + old.len()) as u16).to_be_bytes());
+    entry.extend((start as u16).to_be_bytes());
+    entry.extend(old);
+    Some(entry)
+}
+
+/// Eight records within their limits.
+pub fn axes(dice: &mut Dice) -> Vec<u8> {
+    let mut axes = match dice.roll(4) {
+        0 => vec![0; AXES * RECORD],
+        1 => vec![0xFF; AXES * RECORD],
+        _ => dice.bytes(AXES * RECORD),
+    };
+    for record in axes.chunks_mut(RECORD) {
+        record[1] &= 0x0F;
+        record[2] &= 0x0F;
+    }
+    axes
+}
+
+pub fn settings(dice: &mut Dice) -> Settings {
+    let fitted = match dice.roll(4) {
+        0 | 1 => 0xFF,
+        2 => 1 << dice.roll(AXES),
+        _ => dice.between(1, 255) as u8,
+    };
+    let station = match dice.roll(3) {
+        0 => 0x99,
+        _ => dice.byte(),
+    };
+    Settings { fitted, station }
+}
+
+pub fn reply(dice: &mut Dice) -> Vec<u8> {
+    let length = match dice.roll(4) {
+        0 => dice.between(LONGEST_REPLY, LONGEST_REPLY + 200),
+        _ => LONGEST_REPLY,
+    };
+    match dice.one_in(2) {
+        true => vec![0xEE; length],
+        false => dice.bytes(length),
+    }
+}

@@ -1,0 +1,425 @@
+//! Drawn frames: good ones of every message, and ones damaged in each way.
+
+use super::compare::Lent;
+use super::dice::Dice;
+use crate::areas::{AXES, FIRST_COLUMN, LAST_COLUMN, SLOT};
+use crate::digits;
+use crate::frames::{self, LONGEST_FRAME, SHORTEST_FRAME};
+
+const MARKS: &[u8] = b"@@";
+const ENTRY_HEAD: usize = 5;
+const MOST_COLUMNS: usize = 255;
+
+/// The fields of a command, as far as its message has them.
+#[derive(Clone)]
+struct Asking {
+    id: [u8; 3],
+    program: Option<u8>,
+    run: Option<Named>,
+    rest: Vec<u8>,
+}
+
+/// Start and count of a run, and how many digits the count has: 3 for points, 2 for columns.
+#[derive(Clone, Copy)]
+struct Named {
+    start: usize,
+    count: usize,
+    width: usize,
+}
+
+impl Asking {
+    fn plain(id: &[u8; 3], rest: Vec<u8>) -> Asking {
+        Asking { id: *id, program: None, run: None, rest }
+    }
+
+    /// Message ID and content.
+    fn text(&self) -> Vec<u8> {
+        let mut text = self.id.to_vec();
+        if let Some(program) = self.program {
+            digits::push(&mut text, u32::from(program), 2);
+        }
+        if let Some(Named { start, count, width }) = self.run {
+            digits::push(&mut text, start as u32, 3);
+            digits::push(&mut text, count as u32, width);
+        }
+        text.extend(&self.rest);
+        text
+    }
+}
+
+/// A frame that no refusal meets, where the areas are sound.
+pub fn good(dice: &mut Dice, lent: &Lent) -> Vec<u8> {
+    let asking = asking(dice, lent);
+    closed(dice, lent.settings.station, &asking.text())
+}
+
+/// A frame with one fault or more.
+pub fn damaged(dice: &mut Dice, lent: &Lent) -> Vec<u8> {
+    match dice.roll(16) {
+        0 => odd_bytes(dice),
+        1 | 2 => overlong(dice, lent),
+        3..=7 => {
+            let frame = good(dice, lent);
+            spoiled(dice, frame)
+        }
+        _ => {
+            let mut asking = asking(dice, lent);
+            for _ in 0..dice.pick(&[1, 1, 1, 2, 3]) {
+                fault(dice, lent, &mut asking);
+            }
+            let mut text = asking.text();
+            lengthened(dice, &mut text);
+            let frame = closed(dice, lent.settings.station, &text);
+            if dice.one_in(12) {
+                return spoiled(dice, frame);
+            }
+            frame
+        }
+    }
+}
+
+/// '!', station, the text, then a true SC or '@@', CR and LF.
+fn closed(dice: &mut Dice, station: u8, text: &[u8]) -> Vec<u8> {
+    let mut frame = vec![b'!'];
+    digits::push(&mut frame, u32::from(station), 2);
+    frame.extend(text);
+    frame = frames::closed(frame);
+    if dice.one_in(3) {
+        set_sc(&mut frame, MARKS);
+    }
+    frame
+}
+
+fn set_sc(frame: &mut [u8], sc: &[u8]) {
+    let at = frame.len() - 4;
+    frame[at..at + 2].copy_from_slice(sc);
+}
+
+/// Makes the SC true again after a change before it.
+fn mend_sc(frame: &mut [u8]) {
+    let sc = frames::sc(&frame[..frame.len() - 4]);
+    set_sc(frame, &sc);
+}
+
+// ---- good commands ----
+
+fn asking(dice: &mut Dice, lent: &Lent) -> Asking {
+    match dice.roll(50) {
+        0..=2 => Asking::plain(b"200", test_text(dice)),
+        3..=6 => Asking::plain(b"208", Vec::new()),
+        7..=14 => Asking { run: Some(points_named(dice, lent)), ..Asking::plain(b"209", vec![]) },
+        15..=19 => columns_asked(dice, lent, b"210"),
+        20..=24 => Asking::plain(b"212", dice.digits(2)),
+        25..=36 => point_write(dice, lent),
+        37..=41 => Asking { run: Some(points_named(dice, lent)), ..Asking::plain(b"246", vec![]) },
+        _ => column_write(dice, lent),
+    }
+}
+
+/// Ten bytes of any kind.
+fn test_text(dice: &mut Dice) -> Vec<u8> {
+    match dice.roll(3) {
+        0 => dice.digits(10),
+        1 => dice.bytes_of(b"!\r\n@a0", 10),
+        _ => dice.bytes(10),
+    }
+}
+
+fn held(lent: &Lent) -> usize {
+    (lent.board.points.len() / SLOT).max(1)
+}
+
+/// A held run of points: few, many, to the last, all.
+fn points_named(dice: &mut Dice, lent: &Lent) -> Named {
+    let held = held(lent);
+    let start = match dice.roll(4) {
+        0 => 1,
+        1 => held,
+        _ => dice.between(1, held),
+    };
+    let left = held - start + 1;
+    let count = match dice.roll(4) {
+        0 => left,
+        1 => dice.between(1, left),
+        _ => dice.between(1, left.min(3)),
+    };
+    Named { start, count, width: 3 }
+}
+
+/// A held run of columns, now and then one whose entry just fits the journal's rest or just doesn't.
+fn columns_asked(dice: &mut Dice, lent: &Lent, id: &[u8; 3]) -> Asking {
+    let start = match dice.roll(4) {
+        0 => FIRST_COLUMN,
+        1 => LAST_COLUMN - dice.roll(3),
+        _ => dice.between(FIRST_COLUMN, LAST_COLUMN),
+    };
+    let most = MOST_COLUMNS.min(LAST_COLUMN - start + 1);
+    let room = lent.board.journal.len().saturating_sub(lent.board.used);
+    let count = match dice.roll(6) {
+        0 => most,
+        1 => dice.between(1, most),
+        2 | 3 => (room.saturating_sub(ENTRY_HEAD) + dice.roll(3)).saturating_sub(1),
+        _ => dice.between(1, most.min(12)),
+    };
+    let run = Named { start, count: count.clamp(1, most), width: 2 };
+    Asking { program: Some(0), run: Some(run), ..Asking::plain(id, Vec::new()) }
+}
+
+fn column_write(dice: &mut Dice, lent: &Lent) -> Asking {
+    let mut asking = columns_asked(dice, lent, b"24E");
+    let count = asking.run.map_or(0, |run| run.count);
+    asking.rest = dice.digits(2 * count);
+    asking
+}
+
+/// A 244H of one point, a few, or as many as fit into the frame.
+fn point_write(dice: &mut Dice, lent: &Lent) -> Asking {
+    let Named { start, count, .. } = points_named(dice, lent);
+    let left = held(lent) - start + 1;
+    let most = if dice.one_in(4) { left } else { count };
+    let kind = dice.roll(4);
+    let mut rest = Vec::new();
+    let mut points = 0;
+    while points < most {
+        let point = point(dice, kind, lent.settings.fitted.max(1));
+        if SHORTEST_FRAME + 6 + rest.len() + point.len() > LONGEST_FRAME {
+            break;
+        }
+        rest.extend(point);
+        points += 1;
+    }
+    let run = Named { start, count: points, width: 3 };
+    Asking { run: Some(run), ..Asking::plain(b"244", rest) }
+}
+
+/// One point whose pattern has one axis, all, or some of the fitted ones.
+fn point(dice: &mut Dice, kind: usize, fitted: u8) -> Vec<u8> {
+    let one = || (0..AXES).map(|axis| 1 << axis).filter(move |bit| fitted & bit != 0);
+    let single = one().nth(dice.roll(one().count())).unwrap_or(fitted);
+    let pattern = match kind {
+        0 => single,
+        1 => fitted,
+        _ => match dice.byte() & fitted {
+            0 => single,
+            some => some,
+        },
+    };
+    point_of(dice, pattern)
+}
+
+/// One point of this pattern, as long as it says.
+fn point_of(dice: &mut Dice, pattern: u8) -> Vec<u8> {
+    let mut text = Vec::new();
+    digits::push(&mut text, u32::from(pattern), 2);
+    text.extend(dice.digits(12 + 8 * pattern.count_ones() as usize));
+    text
+}
+
+// ---- faults ----
+
+/// One fault of 101 to 107 in a command that may have it, else another.
+fn fault(dice: &mut Dice, lent: &Lent, asking: &mut Asking) {
+    match dice.roll(7) {
+        0 => asking.id = unknown_id(dice),
+        1 => not_a_digit(dice, &mut asking.rest),
+        2 => wrong_length(dice, asking),
+        3 => asking.program = asking.program.map(|_| dice.pick(&[1, 2, 0x10, 0x80, 0xFF])),
+        4 => count_zero(dice, asking),
+        5 => not_held(dice, lent, asking),
+        _ => *asking = faulty_patterns(dice, lent),
+    }
+}
+
+/// IDs of the source, lower case, near ones, any bytes.
+fn unknown_id(dice: &mut Dice) -> [u8; 3] {
+    match dice.roll(4) {
+        0 => *dice.pick(&[b"201", b"245", b"20B", b"299", b"20D", b"24D", b"000", b"FFF"]),
+        1 => *dice.pick(&[b"24e", b"20a", b"2 0", b"\r\n2", b"@@@", b"2A0", b"!20", b"200"]),
+        2 => [b'2', dice.pick(b"0123456789ABCDEF"), dice.pick(b"0123456789ABCDEF")],
+        _ => [dice.byte(), dice.byte(), dice.byte()],
+    }
+}
+
+/// Puts a byte that is no digit over one, or after them.
+fn not_a_digit(dice: &mut Dice, rest: &mut Vec<u8>) {
+    let byte = match dice.roll(3) {
+        0 => dice.pick(b"abcdef"),
+        1 => dice.pick(b"/:@G`g \r\n!\x00\xB0\xC1"),
+        _ => dice.byte(),
+    };
+    let at = dice.roll(rest.len());
+    match rest.get_mut(at) {
+        Some(digit) => *digit = byte,
+        None => rest.push(byte),
+    }
+}
+
+/// Digits too many or too few, or a count that isn't that of what follows.
+fn wrong_length(dice: &mut Dice, asking: &mut Asking) {
+    let several = dice.pick(&[1, 1, 2, 4, 8, 14, 22]);
+    match dice.roll(4) {
+        0 => asking.rest.extend(dice.digits(several)),
+        1 => asking.rest.truncate(asking.rest.len().saturating_sub(several)),
+        2 => change_count(dice, asking),
+        _ => {
+            asking.program = None;
+            asking.run = None;
+            asking.rest = dice.digits(several - 1);
+        }
+    }
+}
+
+fn change_count(dice: &mut Dice, asking: &mut Asking) {
+    let by = dice.pick(&[1, 1, 2, 255, 4_095]);
+    if let Some(run) = &mut asking.run {
+        run.count = run.count.wrapping_add(by);
+    }
+}
+
+/// A count of zero, most often with nothing after it, so that no length is wrong.
+fn count_zero(dice: &mut Dice, asking: &mut Asking) {
+    if let Some(run) = &mut asking.run {
+        run.count = 0;
+        if !dice.one_in(5) {
+            asking.rest.clear();
+        }
+    }
+}
+
+/// A start below the first number, past the last, or a run that leaves them.
+fn not_held(dice: &mut Dice, lent: &Lent, asking: &mut Asking) {
+    if let Some(run) = &mut asking.run {
+        let (first, last) = match run.width {
+            3 => (1, held(lent)),
+            _ => (FIRST_COLUMN, LAST_COLUMN),
+        };
+        run.start = match dice.roll(5) {
+            0 => first - 1,
+            1 => last + 1,
+            2 => dice.roll(4_096),
+            3 => (last + 1).saturating_sub(run.count.saturating_sub(1)),
+            _ => (last + 2).saturating_sub(run.count),
+        };
+    }
+}
+
+/// A 244H with a pattern 00 or one with an unfitted axis among good ones.
+fn faulty_patterns(dice: &mut Dice, lent: &Lent) -> Asking {
+    let held = held(lent);
+    let count = dice.between(1, held.min(9));
+    let faulty = dice.roll(count);
+    let kind = dice.roll(3);
+    let fitted = lent.settings.fitted;
+    let mut rest = Vec::new();
+    for at in 0..count {
+        if at == faulty {
+            let pattern = if dice.one_in(3) { 0 } else { dice.byte() };
+            rest.extend(point_of(dice, pattern));
+        } else {
+            rest.extend(point(dice, kind, fitted.max(1)));
+        }
+    }
+    let run = Named { start: dice.between(1, held - count + 1), count, width: 3 };
+    Asking { run: Some(run), ..Asking::plain(b"244", rest) }
+}
+
+/// Now and then digits until the frame has 1,022 to 1,024 bytes.
+fn lengthened(dice: &mut Dice, text: &mut Vec<u8>) {
+    if dice.one_in(40) {
+        let length = dice.between(LONGEST_FRAME - 1, LONGEST_FRAME + 1) - 7;
+        let more = length.saturating_sub(text.len());
+        text.extend(dice.digits(more));
+    }
+}
+
+/// A frame longer than is received: good points, but too many.
+fn overlong(dice: &mut Dice, lent: &Lent) -> Vec<u8> {
+    let pattern = dice.pick(&[lent.settings.fitted, 0x01, 0xFF]);
+    let length = dice.between(LONGEST_FRAME - 30, LONGEST_FRAME + 120);
+    let mut rest = Vec::new();
+    let mut count = 0;
+    while rest.len() + 16 < length {
+        rest.extend(point_of(dice, pattern));
+        count += 1;
+    }
+    let run = Named { start: 1, count, width: 3 };
+    let asking = Asking { run: Some(run), ..Asking::plain(b"244", rest) };
+    closed(dice, lent.settings.station, &asking.text())
+}
+
+/// Bytes that make no frame, or hardly one.
+fn odd_bytes(dice: &mut Dice) -> Vec<u8> {
+    let count = dice.pick(&[0, 1, 2, 3, 9, 10, 11, 16, 40, 1_022, 1_023, 1_024, 3_000]);
+    let few = dice.pick(&[&b"!\r\n@09"[..], b"0123456789ABCDEF", b"!", b"\r\n"]);
+    let mut bytes = match dice.one_in(2) {
+        true => dice.bytes(count),
+        false => dice.bytes_of(few, count),
+    };
+    if dice.one_in(2) && count >= 3 {
+        bytes[0] = b'!';
+        bytes[count - 2..].copy_from_slice(b"\r\n");
+    }
+    bytes
+}
+
+/// Damages the bytes of a closed frame: marks, SC, station, length, any byte.
+fn spoiled(dice: &mut Dice, mut frame: Vec<u8>) -> Vec<u8> {
+    let length = frame.len();
+    match dice.roll(12) {
+        0 => frame[0] = dice.pick(b"#&\"\x00 1"),
+        1 => frame[length - 1 - dice.roll(2)] = dice.pick(b"\r\n\x00 0"),
+        2 => frame.truncate(dice.roll(length)),
+        3 => frame.extend(dice.pick(&[&b"\r"[..], b"\n", b"\r\n", b" "])),
+        4 | 5 => wrong_sc(dice, &mut frame),
+        6 | 7 => other_station(dice, &mut frame),
+        8 => dice.spoil_byte(&mut frame),
+        9 => {
+            dice.spoil_byte(&mut frame[..length - 4]);
+            mend_sc(&mut frame);
+        }
+        10 => {
+            dice.spoil_byte(&mut frame[..length - 4]);
+            set_sc(&mut frame, MARKS);
+        }
+        _ => frame = small_letters(dice, frame),
+    }
+    frame
+}
+
+/// Another digit, small letters, one mark only, digits swapped, CR LF or its own digits in the sum.
+fn wrong_sc(dice: &mut Dice, frame: &mut [u8]) {
+    mend_sc(frame);
+    let at = frame.len() - 4;
+    match dice.roll(6) {
+        0 => frame[at + dice.roll(2)] = dice.pick(b"0123456789ABCDEF"),
+        1 => frame[at..at + 2].make_ascii_lowercase(),
+        2 => frame[at + dice.roll(2)] = b'@',
+        3 => frame.swap(at, at + 1),
+        4 => {
+            let with_end = frames::sc(&frame[..at + 2]);
+            set_sc(frame, &with_end);
+        }
+        _ => frame[at + dice.roll(2)] = dice.byte(),
+    }
+}
+
+fn other_station(dice: &mut Dice, frame: &mut [u8]) {
+    match dice.roll(3) {
+        0 => frame[1..3].make_ascii_lowercase(),
+        1 => frame[1 + dice.roll(2)] = dice.pick(b"0123456789ABCDEF"),
+        _ => frame[1 + dice.roll(2)] = dice.pick(b"@ag/: \r"),
+    }
+    match dice.one_in(3) {
+        true => set_sc(frame, MARKS),
+        false => mend_sc(frame),
+    }
+}
+
+/// The whole frame in small letters, with an SC true for it or not.
+fn small_letters(dice: &mut Dice, mut frame: Vec<u8>) -> Vec<u8> {
+    frame.make_ascii_lowercase();
+    if dice.one_in(2) {
+        mend_sc(&mut frame);
+    }
+    frame
+}

@@ -1,0 +1,16 @@
+//! Comparing the board's archive, or anything with the same three calls, with the second program:
+//! long drawn sequences of calls, every number and every lent byte compared after each.
+
+pub mod calls;
+pub mod compare;
+pub mod dice;
+pub mod drawn_boards;
+pub mod drawn_frames;
+pub mod drawn_line;
+pub mod run;
+pub mod spoil;
+pub mod tally;
+
+pub use calls::{Areas, Calls, Finding, SecondProgram};
+pub use run::{run, Plan};
+pub use tally::Tally;

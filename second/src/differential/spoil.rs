@@ -1,0 +1,172 @@
+//! Spoiled calls: wrong lengths, spoiled bytes, a spoiled used length, bad records, no fitted axis.
+
+use super::compare::Lent;
+use super::dice::Dice;
+use super::drawn_boards::{self, least_journal};
+use crate::areas::{AXES, RECORD, SLOT};
+use crate::journal;
+
+/// Spoils one thing, or a few, so that the order of the tests shows.
+pub fn spoil(dice: &mut Dice, lent: &mut Lent) {
+    for _ in 0..dice.pick(&[1, 1, 1, 1, 2, 3]) {
+        spoil_one(dice, lent);
+    }
+}
+
+fn spoil_one(dice: &mut Dice, lent: &mut Lent) {
+    match dice.roll(18) {
+        0 | 1 => reply_length(dice, lent),
+        2 | 3 => points_length(dice, lent),
+        4 => columns_length(dice, lent),
+        5 | 6 => journal_length(dice, lent),
+        7 | 8 => used_length(dice, lent),
+        9..=11 => entry_bytes(dice, lent),
+        12 => axes_length(dice, lent),
+        13 | 14 => record_bytes(dice, lent),
+        15 | 16 => odd_entry(dice, lent),
+        _ => lent.settings.fitted = 0,
+    }
+}
+
+/// Changes that leave the board sound: settings, records, old bytes, bytes beyond the used length.
+pub fn change(dice: &mut Dice, lent: &mut Lent) {
+    let used = lent.board.used.min(lent.board.journal.len());
+    match dice.roll(8) {
+        0 => lent.settings = drawn_boards::settings(dice),
+        1 => lent.axes = drawn_boards::axes(dice),
+        2 => lent.reply = drawn_boards::reply(dice),
+        3 => dice.spoil_byte(&mut lent.board.points),
+        4 => dice.spoil_byte(&mut lent.board.columns),
+        5 => dice.spoil_byte(&mut lent.board.journal[used..]),
+        6 => drawn_boards::use_points(dice, &mut lent.board.points),
+        _ => dice.spoil_byte(&mut lent.reply),
+    }
+}
+
+fn reply_length(dice: &mut Dice, lent: &mut Lent) {
+    let length = match dice.roll(3) {
+        0 => dice.roll(1_024),
+        _ => dice.pick(&[0, 1, 10, 1_000, 1_023, 1_024, 1_025]),
+    };
+    lent.reply.resize(length, 0xEE);
+}
+
+/// Not a multiple of 40, none, too many, or another number of points.
+fn points_length(dice: &mut Dice, lent: &mut Lent) {
+    let length = lent.board.points.len();
+    let other = match dice.roll(6) {
+        0 => dice.pick(&[0, 1, 39, 41]),
+        1 => length + dice.between(1, 39),
+        2 => length.saturating_sub(dice.between(1, 39)),
+        3 => dice.pick(&[60_000, 60_001, 60_040, 61_000]),
+        4 => length.saturating_sub(SLOT),
+        _ => length + SLOT * dice.between(1, 2),
+    };
+    lent.board.points.resize(other, 0x01);
+}
+
+fn columns_length(dice: &mut Dice, lent: &mut Lent) {
+    let length = dice.pick(&[0, 1, 40, 699, 701, 720, 999, 1_000, 1_400]);
+    lent.board.columns.resize(length, 0x41);
+}
+
+/// Too short, too long, not as long as what is used, or right in another way.
+fn journal_length(dice: &mut Dice, lent: &mut Lent) {
+    let least = least_journal(lent.board.points.len() / SLOT);
+    let used = lent.board.used.min(100_000);
+    let length = match dice.roll(8) {
+        0 => dice.pick(&[0, 1, 5, 299, 300, 339]),
+        1 => least - 1,
+        2 => least,
+        3 => least + dice.roll(100),
+        4 => used,
+        5 => used.saturating_sub(dice.between(1, 50)),
+        6 => dice.pick(&[65_535, 65_536, 65_537, 65_600]),
+        _ => dice.roll(least),
+    };
+    let byte = dice.pick(&[0, 0x50, 0x53]);
+    lent.board.journal.resize(length, byte);
+}
+
+/// Beyond the journal, a little off, none, or the end of an earlier entry, which is well-formed.
+fn used_length(dice: &mut Dice, lent: &mut Lent) {
+    let (length, used) = (lent.board.journal.len(), lent.board.used);
+    lent.board.used = match dice.roll(10) {
+        0 => 0,
+        1 => used.wrapping_add(dice.between(1, 50)),
+        2 => used.wrapping_sub(dice.between(1, 50)),
+        3 => length,
+        4 => length + 1,
+        5 => usize::MAX - dice.roll(3),
+        6 => dice.pick(&[1, 2, 3, 4, 5, 6, 45, 1 << 31, 1 << 32, 1 << 63]),
+        7 => dice.roll(length + 1),
+        _ => entry_starts(lent).get(dice.roll(6)).copied().unwrap_or(used),
+    };
+}
+
+/// Where entries begin in a sound journal.
+fn entry_starts(lent: &Lent) -> Vec<usize> {
+    let board = &lent.board;
+    let held = board.points.len() / SLOT;
+    let used = board.journal.get(..board.used).unwrap_or(&[]);
+    let entries = journal::entries(used, held).unwrap_or_default();
+    entries.iter().map(|entry| entry.at).collect()
+}
+
+/// A byte of an entry's head most often, else any byte of the used part.
+fn entry_bytes(dice: &mut Dice, lent: &mut Lent) {
+    let starts = entry_starts(lent);
+    let used = lent.board.used.min(lent.board.journal.len());
+    if starts.is_empty() || dice.one_in(5) {
+        dice.spoil_byte(&mut lent.board.journal[..used]);
+        return;
+    }
+    let at = dice.pick(&starts) + dice.roll(5);
+    let byte = &mut lent.board.journal[at];
+    *byte = match dice.roll(5) {
+        0 => dice.pick(&[0x50, 0x53]),
+        1 => byte.wrapping_add(1),
+        2 => byte.wrapping_sub(1),
+        3 => byte.wrapping_add(dice.pick(&[40, 216, 128])),
+        _ => dice.byte(),
+    };
+}
+
+/// Adds an entry whose length is as it says, with p or c, start or tag at a limit or past it.
+fn odd_entry(dice: &mut Dice, lent: &mut Lent) {
+    let board = &mut lent.board;
+    let held = board.points.len() / SLOT;
+    let (tag, old, last) = match dice.roll(3) {
+        0 => (0x50, SLOT * dice.pick(&[0, 1, 2, held, held + 1]), held),
+        1 => (0x50, dice.pick(&[0, 1, 39, 41, 79, 80]), held),
+        _ => (dice.pick(&[0x53, 0x53, 0x54]), dice.pick(&[0, 1, 2, 254, 255, 256, 257]), 999),
+    };
+    let start = match dice.roll(4) {
+        0 => dice.pick(&[0, 1, 299, 300]),
+        1 => last + 1,
+        2 => (last + 1).saturating_sub(old),
+        _ => last,
+    };
+    let mut entry = vec![tag];
+    entry.extend(((2 + old) as u16).to_be_bytes());
+    entry.extend((start as u16).to_be_bytes());
+    entry.extend(dice.bytes(old));
+    let end = board.used.saturating_add(entry.len());
+    if let Some(place) = board.journal.get_mut(board.used..end) {
+        place.copy_from_slice(&entry);
+        board.used = end;
+    }
+}
+
+fn axes_length(dice: &mut Dice, lent: &mut Lent) {
+    lent.axes.resize(dice.pick(&[0, 1, 8, 9, 63, 71, 73, 80, 81, 144]), 0);
+}
+
+/// A sensor over 15 or an error code over 4,095, or just not.
+fn record_bytes(dice: &mut Dice, lent: &mut Lent) {
+    let at = RECORD * dice.roll(AXES) + dice.between(1, 2);
+    let byte = dice.pick(&[0x0F, 0x10, 0x10, 0x11, 0x80, 0xFF]);
+    if let Some(place) = lent.axes.get_mut(at) {
+        *place = byte;
+    }
+}

@@ -1,0 +1,54 @@
+//! The cases of the product's `vectors` program and what it must write (format: README, "Vectors").
+
+mod drawn_cases;
+mod fixed_cases;
+mod journal_cases;
+mod play;
+mod refusal_cases;
+mod script;
+
+pub use play::play;
+
+use script::Script;
+
+/// Standard input of the vectors program: all cases, the same in every run.
+pub fn stdin() -> Vec<u8> {
+    let mut script = Script::default();
+    fixed_cases::add(&mut script);
+    refusal_cases::add(&mut script);
+    journal_cases::add(&mut script);
+    drawn_cases::add(&mut script);
+    script.end()
+}
+
+/// Standard input and the expected standard output.
+pub fn both() -> (Vec<u8>, String) {
+    let stdin = stdin();
+    let stdout = play(&stdin);
+    (stdin, stdout)
+}
+
+#[cfg(test)]
+mod tests {
+    use super::*;
+    use std::collections::BTreeSet;
+
+    #[test]
+    fn regenerating_gives_the_same_bytes() {
+        assert_eq!(both(), both());
+    }
+
+    #[test]
+    fn the_vectors_are_small_and_reach_every_number() {
+        let (stdin, stdout) = both();
+        assert!(stdin.len() < 200_000, "{} bytes", stdin.len());
+        assert!((300..=700).contains(&stdout.lines().count()), "{} lines", stdout.lines().count());
+        let numbers = |letter: &str| -> BTreeSet<u16> {
+            let lines = stdout.lines().filter_map(|line| line.strip_prefix(letter));
+            lines.filter_map(|line| line.split(' ').next()?.parse().ok()).collect()
+        };
+        assert_eq!(numbers("F "), (0..=8).chain(101..=107).collect());
+        assert_eq!(numbers("S "), BTreeSet::from([0, 2, 3, 4, 9]));
+        assert_eq!(numbers("R "), BTreeSet::from([0, 1, 2, 3]));
+    }
+}

@@ -1,0 +1,227 @@
+//! Playing operations on the second program: what the vectors program must write.
+
+use super::script::Part;
+use crate::areas::Board;
+use crate::differential::Finding;
+use crate::{frames, link};
+use std::fmt::Write;
+
+/// Buffers the areas are lent from: points, columns, journal, reply, axes.
+const BUFFERS: [usize; 5] = [60_000, 720, 65_600, 1_100, 80];
+const PRIME: u64 = 4_294_967_291;
+
+/// The text that these operations write. They are our own: a wrong one is a panic.
+pub fn play(stdin: &[u8]) -> String {
+    let mut player = Player::new(stdin);
+    while player.next() {}
+    assert!(player.rest.is_empty(), "operations after the end");
+    player.text
+}
+
+struct Player<'a> {
+    rest: &'a [u8],
+    buffers: [Vec<u8>; 5],
+    lent: [usize; 5],
+    used: usize,
+    fitted: u8,
+    station: u8,
+    text: String,
+}
+
+impl Player<'_> {
+    fn new(stdin: &[u8]) -> Player<'_> {
+        Player {
+            rest: stdin,
+            buffers: BUFFERS.map(|length| vec![0; length]),
+            lent: [0; 5],
+            used: 0,
+            fitted: 0,
+            station: 0,
+            text: String::new(),
+        }
+    }
+
+    /// Plays one operation; false after the end.
+    fn next(&mut self) -> bool {
+        match self.number(1) as u8 {
+            b'B' => self.board(),
+            b'X' => self.spoil(),
+            b'U' => self.used = self.number(8) as usize,
+            b'L' => self.lend(),
+            b'P' => (self.fitted, self.station) = (self.number(1) as u8, self.number(1) as u8),
+            b'F' => self.answer(),
+            b'S' => self.step_back(),
+            b'R' => self.find(),
+            b'E' => return false,
+            letter => panic!("no operation {letter:02X}"),
+        }
+        true
+    }
+
+    fn take(&mut self, count: usize) -> Vec<u8> {
+        let (taken, rest) = self.rest.split_at(count);
+        self.rest = rest;
+        taken.to_vec()
+    }
+
+    fn number(&mut self, width: usize) -> u64 {
+        self.take(width).iter().fold(0, |number, &byte| number << 8 | u64::from(byte))
+    }
+
+    /// A fresh board. Whole buffers are cleared, so that nothing of another board is ever lent.
+    fn board(&mut self) {
+        let points = 40 * self.number(2) as usize;
+        (self.fitted, self.station) = (self.number(1) as u8, self.number(1) as u8);
+        let journal = self.number(4) as usize;
+        for buffer in &mut self.buffers {
+            buffer.fill(0);
+        }
+        self.buffers[Part::Reply as usize].fill(0xEE);
+        self.lent = [points, 700, journal, 1_024, 72];
+        self.used = 0;
+        assert!(self.lent.iter().zip(BUFFERS).all(|(&lent, length)| lent <= length));
+    }
+
+    fn spoil(&mut self) {
+        let (part, offset) = (self.number(1) as usize, self.number(4) as usize);
+        self.buffers[part][offset] = self.number(1) as u8;
+    }
+
+    fn lend(&mut self) {
+        let (part, length) = (self.number(1) as usize, self.number(4) as usize);
+        assert!(length <= BUFFERS[part], "lends more than there is");
+        self.lent[part] = length;
+    }
+
+    fn lent(&self, part: Part) -> &[u8] {
+        &self.buffers[part as usize][..self.lent[part as usize]]
+    }
+
+    fn board_lent(&self) -> Board {
+        Board {
+            points: self.lent(Part::Points).to_vec(),
+            columns: self.lent(Part::Columns).to_vec(),
+            journal: self.lent(Part::Journal).to_vec(),
+            used: self.used,
+        }
+    }
+
+    /// Lays bytes back to the front of a buffer.
+    fn lay(&mut self, part: Part, bytes: &[u8]) {
+        self.buffers[part as usize][..bytes.len()].copy_from_slice(bytes);
+    }
+
+    fn lay_board(&mut self, board: &Board) {
+        self.lay(Part::Points, &board.points);
+        self.lay(Part::Columns, &board.columns);
+        self.lay(Part::Journal, &board.journal);
+        self.used = board.used;
+    }
+
+    fn answer(&mut self) {
+        let length = self.number(2) as usize;
+        let frame = self.take(length);
+        let mut board = self.board_lent();
+        let mut reply = self.lent(Part::Reply).to_vec();
+        let axes = self.lent(Part::Axes);
+        let outcome = link::answer(&frame, &mut board, axes, self.fitted, self.station, &mut reply);
+        self.lay_board(&board);
+        self.lay(Part::Reply, &reply);
+        let digests = self.digests(&[Part::Points, Part::Columns, Part::Journal, Part::Reply]);
+        self.write(format!("F {} {} {}{digests}", outcome.number, outcome.reply_length, self.used));
+    }
+
+    fn step_back(&mut self) {
+        let mut board = self.board_lent();
+        let number = link::step_back(&mut board);
+        self.lay_board(&board);
+        let digests = self.digests(&[Part::Points, Part::Columns, Part::Journal]);
+        self.write(format!("S {number} {}{digests}", self.used));
+    }
+
+    fn find(&mut self) {
+        let length = self.number(2) as usize;
+        let Finding { code, start, length, drop } = frames::find(&self.take(length)).into();
+        self.write(format!("R {code} {start} {length} {drop}"));
+    }
+
+    fn digests(&self, parts: &[Part]) -> String {
+        parts.iter().map(|&part| format!(" {:08X}", digest(self.lent(part)))).collect()
+    }
+
+    fn write(&mut self, line: String) {
+        let _ = writeln!(self.text, "{line}");
+    }
+}
+
+/// For each byte h becomes (31·h + byte + 1) mod 4,294,967,291, from 0.
+fn digest(bytes: &[u8]) -> u64 {
+    bytes.iter().fold(0, |h, &byte| (31 * h + u64::from(byte) + 1) % PRIME)
+}
+
+#[cfg(test)]
+mod tests {
+    use super::*;
+
+    #[test]
+    fn digests_tell_lengths_and_bytes_apart() {
+        assert_eq!(digest(&[]), 0);
+        assert_eq!(digest(&[0]), 1);
+        assert_eq!(digest(&[0, 0]), 32);
+        assert_eq!(digest(&[0xFF, 0x01]), 31 * 256 + 2);
+        // 31 to the power of 6 and so on, by hand: seven bytes of FF pass the prime.
+        let by_hand = (0..7).fold(0u64, |h, _| (31 * h + 256) % 4_294_967_291);
+        assert_eq!(digest(&[0xFF; 7]), by_hand);
+    }
+
+    /// The message of each accepted frame of these operations.
+    fn accepted(stdin: &[u8]) -> Vec<String> {
+        let mut player = Player::new(stdin);
+        let mut messages = Vec::new();
+        loop {
+            let operation = player.rest;
+            if !player.next() {
+                return messages;
+            }
+            let last = player.text.lines().next_back().unwrap_or("");
+            if operation[0] == b'F' && last.starts_with("F 0 ") {
+                messages.push(String::from_utf8_lossy(&operation[6..9]).into_owned());
+            }
+        }
+    }
+
+    #[test]
+    fn the_vectors_accept_each_message_often() {
+        let accepted = accepted(&super::super::stdin());
+        for message in crate::differential::tally::MESSAGES {
+            let count = accepted.iter().filter(|&accepted| accepted == message).count();
+            assert!(count >= 5, "{message}: {count}");
+        }
+    }
+
+    #[test]
+    fn a_small_script_by_hand() {
+        let script = [
+            &b"B\x00\x01\xFF\x99\x00\x00\x01\x54"[..],
+            b"F\x00\x0A!99208@@\r\n",
+            b"P\x01\x98F\x00\x0A!99208@@\r\n",
+            b"U\x00\x00\x00\x00\x00\x00\x00\x01S",
+            b"L\x00\x00\x00\x00\x00X\x01\x00\x00\x00\x00\x07S",
+            b"R\x00\x03!\r\nE",
+        ]
+        .concat();
+        let text = play(&script);
+        let lines: Vec<&str> = text.lines().collect();
+        assert_eq!(lines.len(), 5);
+        assert!(lines[0].starts_with("F 0 13 0 "));
+        assert_eq!(lines[0].split(' ').count(), 8);
+        assert!(lines[1].starts_with("F 8 0 0 "));
+        assert_eq!(lines[0].split(' ').next_back(), lines[1].split(' ').next_back());
+        assert!(lines[2].starts_with("S 4 1 "));
+        assert_eq!(lines[2].split(' ').count(), 6);
+        assert!(lines[3].starts_with("S 2 1 00000000 "));
+        assert_ne!(lines[2].split(' ').nth(4), lines[3].split(' ').nth(4));
+        assert_eq!(lines[4], "R 0 0 3 3");
+        assert!(text.ends_with('\n'));
+    }
+}
