@@ -3,10 +3,27 @@ SHELL := /bin/bash
 .SHELLFLAGS := -eu -o pipefail -c
 .ONESHELL:
 .SILENT:
-.PHONY: run test second
+.PHONY: run test second archive header host vectors tools
 
+STRICT := -Wall -Wextra -Werror -pedantic -Iinclude
+ARCHIVE := target/staticlib/libboard.a
+
+# The product is x86-64 code. On another processor it's linked by a cross compiler and run by the toolchain's emulator.
+ifeq ($(shell uname -m),x86_64)
+  X86CC := gcc
+  X86 :=
+else
+  X86CC := x86_64-linux-gnu-gcc
+  X86 := /opt/rattle/on/$(shell uname -m)/toolchain/bin/qemu-x86_64
+endif
+KIT := /opt/rattle/on/$(shell uname -m)/toolchain/lib
+# under valgrind where it can be: it doesn't run the other processor's code
+CHECKED := $(if $(X86),$(X86),valgrind --quiet --error-exitcode=1)
+
+# the bench program: frames from standard input, replies to standard output
 run:
-	echo 'The bench program is not there yet: it comes with the link (docs/DECISIONS.md, "make run").'
+	rt check bench > /dev/null
+	exec $(X86) $(KIT)/ld-linux-x86-64.so.2 --library-path $(KIT) target/bin/bench
 
 # rt ci first, from nothing; then the tests outside it, which prove nothing again. rt ci's last line is printed last, and only where all passed.
 test:
@@ -15,9 +32,33 @@ test:
 	rt ci | tee "$$log"
 	last=$$(tail -n 1 "$$log")
 	[[ $$last =~ ^[0-9]+\ passed,\ 0\ failed$$ ]] || { echo "rt ci did not end in 'N passed, 0 failed': $$last" >&2; exit 1; }
-	$(MAKE) --no-print-directory second
+	$(MAKE) --no-print-directory second header host
 	echo "$$last"
 
 # the independent second program's own tests
 second:
 	cargo test --quiet --offline --manifest-path second/Cargo.toml --target-dir target/second
+
+# include/cabinet.h as C99 and as C++
+header:
+	gcc -std=c99 $(STRICT) -fsyntax-only host/compile_header.c
+	g++ -std=c++11 $(STRICT) -fsyntax-only host/compile_header.cpp
+
+tools:
+	command -v $(X86CC) > /dev/null || { apt-get update -qq && apt-get install -y -qq gcc-x86-64-linux-gnu > /dev/null; }
+
+archive:
+	rt staticlib board > /dev/null
+	mkdir -p target/host
+
+# what the second program says of its own cases
+vectors:
+	cargo run --quiet --offline --release --manifest-path second/Cargo.toml --target-dir target/second --bin vectors -- target/vectors
+
+# the archive: the bench listing in pieces of every length, then every vector
+host: tools archive vectors
+	$(X86CC) -std=c99 -O2 -static $(STRICT) host/bench_listing.c $(ARCHIVE) -o target/host/bench_listing
+	$(CHECKED) target/host/bench_listing
+	$(X86CC) -std=c99 -O2 -static $(STRICT) host/play_vectors.c $(ARCHIVE) -o target/host/play_vectors
+	$(X86) target/host/play_vectors < target/vectors/stdin | cmp - target/vectors/stdout
+	echo "vectors: $$(wc -l < target/vectors/stdout) calls as the second program says"

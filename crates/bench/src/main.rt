@@ -1,0 +1,162 @@
+// The bench program (document 01): frames from standard input, replies to standard output.
+use axes::read_axes;
+use frames::finder::Found;
+use frames::finder::find;
+use libc::STDIN_FILENO;
+use libc::STDOUT_FILENO;
+use link::Kept;
+use link::Settings;
+use link::answer;
+ghost use mathlib.Core.Path.{_≡_};
+ghost use Prim.Native.Nat.{_+_, _≤_};
+ghost use lib.ListN.{length};
+ghost use Rattle.bench.specs.Turns.{Less};
+
+// What a turn leaves: so many bytes received and the journal's used length, or the end of the input.
+pub enum Turn {
+    On { have: usize, used: usize },
+    End,
+}
+
+fn say(reply: &[u8], length: usize) {
+    if length <= reply.len() {
+        io::write_all(STDOUT_FILENO, &reply[..length]);
+    }
+}
+
+// One frame answered, with station 99H, all eight axes and zero records; the journal's used length.
+fn serve(
+    frame: &[u8],
+    points: &mut [u8],
+    columns: &mut [u8],
+    journal: &mut [u8],
+    used: usize,
+) -> usize {
+    let mut reply = [0u8; 1024];
+    let zeros = [0u8; 72];
+    let settings = Settings {
+        station: 0x99,
+        fitted: 0xFF,
+    };
+    let kept = Kept { used };
+    let answered = answer(
+        frame,
+        points,
+        columns,
+        journal,
+        kept,
+        read_axes(&zeros),
+        settings,
+        &mut reply,
+    );
+    say(&reply, answered.length);
+    let after = answered.kept;
+    after.used
+}
+
+// Moves what stands from `from` to `to` to the start.
+fn shift(line: &mut [u8], from: usize, to: usize)
+    requires { ⌜ (from ≤ to) × (to ≤ length (now line)) ⌝ }
+{
+    let mut i = 0;
+    while i < to - from {
+        line[i] = line[from + i];
+        i += 1;
+    }
+}
+
+// One read after the `have` bytes at the start, and how many bytes came: 0 at the end of the input.
+fn fill(line: &mut [u8], have: usize) -> usize
+    requires { ⌜ have ≤ length (now line) ⌝ }
+    ensures { λ r. ⌜ have + r ≤ length (now (line .exit)) ⌝ }
+{
+    let got = libc::read(STDIN_FILENO, &mut line[have..]);
+    io::count(got, &line[have..])
+}
+
+// What was dropped goes, and more is read. A line of 2,048 bytes has room after "wait".
+fn pull(line: &mut [u8], drop: usize, have: usize, used: usize) -> Turn
+    requires { ⌜ (drop ≤ have) × (have ≤ length (now line)) ⌝ }
+    ensures { λ r. ⌜ Less r (length (now (line .entry))) ⌝ }
+{
+    shift(&mut *line, drop, have);
+    let left = have - drop;
+    if left == line.len() {
+        return Turn::End;
+    }
+    let n = fill(&mut *line, left);
+    if n == 0 {
+        return Turn::End;
+    }
+    Turn::On {
+        have: left + n,
+        used,
+    }
+}
+
+// One frame answered, or more read.
+fn go_on(
+    line: &mut [u8],
+    have: usize,
+    points: &mut [u8],
+    columns: &mut [u8],
+    journal: &mut [u8],
+    used: usize,
+) -> Turn
+    requires { ⌜ have ≤ length (now line) ⌝ }
+    ensures { λ r. ⌜ Less r (length (now (line .entry))) ⌝ }
+{
+    let found = find(&line[..have]);
+    match found {
+        Found::Frame { start, used: end } => {
+            let left = serve(&line[start..end], points, columns, journal, used);
+            shift(&mut *line, end, have);
+            Turn::On {
+                have: have - end,
+                used: left,
+            }
+        }
+        Found::TooLong { drop } => {
+            shift(&mut *line, drop, have);
+            Turn::On {
+                have: have - drop,
+                used,
+            }
+        }
+        Found::Nothing { drop } => pull(&mut *line, drop, have, used),
+        Found::Wait { drop } => pull(&mut *line, drop, have, used),
+    }
+}
+
+fn all(line: &mut [u8], points: &mut [u8], columns: &mut [u8], journal: &mut [u8]) {
+    let mut turns = u64::MAX;
+    let mut have: usize = 0;
+    let mut used: usize = 0;
+    while turns > 0 {
+        match go_on(
+            &mut *line,
+            have,
+            &mut *points,
+            &mut *columns,
+            &mut *journal,
+            used,
+        ) {
+            Turn::On { have: h, used: u } => {
+                have = h;
+                used = u;
+            }
+            Turn::End => {
+                return;
+            }
+        }
+        turns -= 1;
+    }
+}
+
+fn main() {
+    let mut line = [0u8; 2048];
+    let mut points = [0u8; 20000];
+    let mut columns = [0u8; 700];
+    let mut journal = [0u8; 32768];
+    all(&mut line, &mut points, &mut columns, &mut journal);
+}
