@@ -3,7 +3,7 @@ SHELL := /bin/bash
 .SHELLFLAGS := -eu -o pipefail -c
 .ONESHELL:
 .SILENT:
-.PHONY: run test second archive header host vectors tools
+.PHONY: run test second archive header host vectors differential tools
 
 STRICT := -Wall -Wextra -Werror -pedantic -Iinclude
 ARCHIVE := target/staticlib/libboard.a
@@ -32,7 +32,7 @@ test:
 	rt ci | tee "$$log"
 	last=$$(tail -n 1 "$$log")
 	[[ $$last =~ ^[0-9]+\ passed,\ 0\ failed$$ ]] || { echo "rt ci did not end in 'N passed, 0 failed': $$last" >&2; exit 1; }
-	$(MAKE) --no-print-directory second header host
+	$(MAKE) --no-print-directory second header host differential
 	echo "$$last"
 
 # the independent second program's own tests
@@ -62,3 +62,8 @@ host: tools archive vectors
 	$(X86CC) -std=c99 -O2 -static $(STRICT) host/play_vectors.c $(ARCHIVE) -o target/host/play_vectors
 	$(X86) target/host/play_vectors < target/vectors/stdin | cmp - target/vectors/stdout
 	echo "vectors: $$(wc -l < target/vectors/stdout) calls as the second program says"
+
+# drawn calls compared with the second program, every byte of every area after each; DIFFERENTIAL_CALLS=N and DIFFERENTIAL_SEED=N for others
+differential: tools archive
+	$(X86CC) -std=c99 -O2 -static $(STRICT) host/play_calls.c $(ARCHIVE) -o target/host/play_calls
+	PLAYER="$(X86) target/host/play_calls" cargo run --quiet --offline --release --manifest-path second/Cargo.toml --target-dir target/second --bin differential

@@ -3,27 +3,27 @@
 
 use second::areas::SLOT;
 use second::differential::calls::Settings;
-use second::differential::{run, Areas, Calls, Finding, Plan, SecondProgram, Tally};
+use second::differential::{run, Areas, Calls, Finding, Here, Plan, Player, SecondProgram, Tally};
 use second::Outcome;
 
 fn plan(calls: usize) -> Plan {
-    Plan { seed: 20_261_115, calls, guard: 64, show: 0 }
+    Plan { seed: 20_261_115, calls, show: 0 }
 }
 
 #[test]
 fn the_second_program_does_not_differ_from_itself_and_all_is_reached() {
-    let tally =
-        run(&SecondProgram, &plan(25_000)).unwrap_or_else(|difference| panic!("{difference}"));
+    let tally = run(&mut Here(&SecondProgram), &plan(25_000))
+        .unwrap_or_else(|difference| panic!("{difference}"));
     assert_eq!(tally.rarer_than(1), Vec::<String>::new());
     assert!(tally.to_string().contains("frames by message"));
 }
 
 #[test]
 fn one_seed_gives_one_run() {
-    let of = |seed: u64| run(&SecondProgram, &Plan { seed, ..plan(500) });
+    let of = |seed: u64| run(&mut Here(&SecondProgram), &Plan { seed, ..plan(500) });
     assert_eq!(of(1), of(1));
     assert_ne!(of(1), of(2));
-    assert_eq!(run(&SecondProgram, &plan(0)), Ok(Tally::default()));
+    assert_eq!(run(&mut Here(&SecondProgram), &plan(0)), Ok(Tally::default()));
 }
 
 /// What a wrong board does otherwise than the second program.
@@ -152,11 +152,33 @@ impl Calls for Wrong {
 #[test]
 fn wrong_boards_are_caught() {
     for wrong in ALL {
-        let Err(difference) = run(&wrong, &plan(5_000)) else {
+        let Err(difference) = run(&mut Here(&wrong), &plan(5_000)) else {
             panic!("{wrong:?} was not caught");
         };
         assert!(difference.starts_with("difference at call "), "{difference}");
         assert!(difference.contains(" of seed 20261115\n"), "{difference}");
         assert!(difference.contains("\npoints: "), "{difference}");
+    }
+}
+
+#[test]
+fn a_player_that_sends_nothing_or_anything_else_is_caught() {
+    for words in ["true", "false", "cat"] {
+        let mut player = Player::start(words, 64, 16).expect(words);
+        let Err(difference) = run(&mut player, &plan(1_000)) else {
+            panic!("{words} was not caught");
+        };
+        assert!(difference.starts_with("difference at call 1 of seed 20261115\n"), "{difference}");
+    }
+    assert!(Player::start("", 64, 16).is_err());
+    assert!(Player::start("/no/such/player", 64, 16).is_err());
+}
+
+#[test]
+fn without_calls_the_players_end_is_looked_at() {
+    let of = |words: &str| run(&mut Player::start(words, 64, 16).expect(words), &plan(0));
+    assert_eq!(of("dd of=/dev/null status=none"), Ok(Tally::default()));
+    for words in ["false", "cat"] {
+        assert!(of(words).is_err_and(|why| why.starts_with("difference at the end: ")), "{words}");
     }
 }

@@ -7,10 +7,15 @@ pub mod dice;
 pub mod drawn_boards;
 pub mod drawn_frames;
 pub mod drawn_line;
+pub mod left;
+pub mod player;
+pub mod product;
 pub mod run;
 pub mod spoil;
 pub mod tally;
 
 pub use calls::{Areas, Calls, Finding, SecondProgram};
+pub use player::Player;
+pub use product::{Here, Product};
 pub use run::{run, Plan};
 pub use tally::Tally;

@@ -1,8 +1,8 @@
 //! A run: board after board, call after call, until the planned number is made.
 
-use super::calls::Calls;
-use super::compare::{dump, Call, Comparer, Lent};
+use super::compare::{dump, parts, Call, Lent};
 use super::dice::Dice;
+use super::product::{made, Difference, Made, Product};
 use super::{drawn_boards, drawn_frames, drawn_line, spoil, Tally};
 
 /// Steps back in one go, at most.
@@ -12,44 +12,83 @@ const MOST_STEPS: usize = 60;
 pub struct Plan {
     pub seed: u64,
     pub calls: usize,
-    /// Guard bytes on each side of a lent area; with none, allocations are exact (for valgrind).
-    pub guard: usize,
     /// Number of a call whose inputs are printed before it is made, should it not come back; or 0.
     pub show: usize,
 }
 
 /// Makes the calls of a plan; Err is the first difference, with all that was handed over.
-pub fn run(product: &dyn Calls, plan: &Plan) -> Result<Tally, String> {
-    let mut run = Run {
-        product,
-        plan: *plan,
-        dice: Dice::new(plan.seed),
-        comparer: Comparer::new(plan.guard),
-        tally: Tally::default(),
-        made: 0,
-    };
+pub fn run(product: &mut dyn Product, plan: &Plan) -> Result<Tally, String> {
+    let (tally, difference) = calls(product, plan);
+    match difference.or_else(|| product.end().err()) {
+        None => Ok(tally),
+        Some(difference) => Err(explained(difference, plan.seed)),
+    }
+}
+
+/// Makes the calls of a plan, until a difference is found.
+fn calls(product: &mut dyn Product, plan: &Plan) -> (Tally, Option<Difference>) {
+    let dice = Dice::new(plan.seed);
+    let mut run = Run { product, plan: *plan, dice, tally: Tally::default(), made: 0 };
     while run.made < plan.calls {
         let mut lent = drawn_boards::lent(&mut run.dice);
         let until = run.made + drawn_boards::calls(&mut run.dice, &lent);
         while run.made < until.min(plan.calls) {
-            run.next(&mut lent)?;
+            if let Err(difference) = run.next(&mut lent) {
+                return (run.tally, Some(difference));
+            }
         }
     }
-    Ok(run.tally)
+    (run.tally, None)
+}
+
+/// A difference as text; its call is drawn again.
+fn explained(difference: Difference, seed: u64) -> String {
+    let number = match &difference {
+        Difference::Left(number, _) | Difference::Nothing(number, _) => *number,
+        Difference::End(why) => return format!("difference at the end: {why}"),
+    };
+    let mut again = Again { difference, text: String::new() };
+    calls(&mut again, &Plan { seed, calls: number, show: 0 });
+    format!("difference at call {number} of seed {seed}\n{}", again.text)
+}
+
+/// Makes no call, and explains the difference where it comes by.
+struct Again {
+    difference: Difference,
+    text: String,
+}
+
+impl Product for Again {
+    fn make(&mut self, made: &Made) -> Result<(), Difference> {
+        let what = match &self.difference {
+            Difference::Left(number, given) if *number == made.number => {
+                given.differs(&made.left(), parts(made.call, made.before))
+            }
+            Difference::Nothing(number, why) if *number == made.number => {
+                format!("nothing came back ({why}), from this call or a later one of its batch")
+            }
+            _ => return Ok(()),
+        };
+        self.text = format!("{what}\n{}", dump(made.call, made.before));
+        Ok(())
+    }
+
+    fn end(&mut self) -> Result<(), Difference> {
+        Ok(())
+    }
 }
 
 struct Run<'a> {
-    product: &'a dyn Calls,
+    product: &'a mut dyn Product,
     plan: Plan,
     dice: Dice,
-    comparer: Comparer,
     tally: Tally,
     made: usize,
 }
 
 impl Run<'_> {
     /// One call, or several steps back; what is accepted stays for the next.
-    fn next(&mut self, lent: &mut Lent) -> Result<(), String> {
+    fn next(&mut self, lent: &mut Lent) -> Result<(), Difference> {
         match self.dice.roll(100) {
             0..=54 => {
                 let frame = drawn_frames::good(&mut self.dice, lent);
@@ -74,7 +113,7 @@ impl Run<'_> {
     }
 
     /// One step back most often, many in a row now and then, also past the last entry.
-    fn steps_back(&mut self, lent: &mut Lent) -> Result<(), String> {
+    fn steps_back(&mut self, lent: &mut Lent) -> Result<(), Difference> {
         for _ in 0..self.dice.pick(&[1, 1, 1, 1, 1, 1, 2, 2, 3, 5, 8, MOST_STEPS]) {
             let empty = lent.board.used == 0;
             self.make(Call::StepBack, lent)?;
@@ -86,7 +125,7 @@ impl Run<'_> {
     }
 
     /// A call on a spoiled copy of what is lent; the copy is thrown away.
-    fn spoiled(&mut self, lent: &Lent) -> Result<(), String> {
+    fn spoiled(&mut self, lent: &Lent) -> Result<(), Difference> {
         let mut copy = lent.clone();
         spoil::spoil(&mut self.dice, &mut copy);
         let call = match self.dice.roll(8) {
@@ -97,23 +136,15 @@ impl Run<'_> {
         self.make(call, &mut copy)
     }
 
-    fn make(&mut self, call: Call, lent: &mut Lent) -> Result<(), String> {
+    fn make(&mut self, call: Call, lent: &mut Lent) -> Result<(), Difference> {
         let before = lent.clone();
         self.made += 1;
         if self.made == self.plan.show {
             eprintln!("call {}\n{}", self.made, dump(&call, &before));
         }
-        match self.comparer.make(self.product, &call, lent) {
-            Ok(answer) => {
-                self.tally.count(&call, &before, lent, answer);
-                Ok(())
-            }
-            Err(difference) => Err(format!(
-                "difference at call {} of seed {}\n{difference}\n{}",
-                self.made,
-                self.plan.seed,
-                dump(&call, &before)
-            )),
-        }
+        let made = made(self.made, &call, &before, lent);
+        self.product.make(&made)?;
+        self.tally.count(&call, &before, made.after, made.answer);
+        Ok(())
     }
 }
