@@ -1,0 +1,44 @@
+-- Demand 1: a refused frame or step back changes nothing; "a refusal has one number and one fixed reply, or none".
+use Prim.Native.Nat.{ℕ, _≤_, _<_}
+use mathlib.Core.Path.{_≡_}
+use mathlib.Core.List.{List, []}
+use lib.ListN.{length}
+use Rattle.frames.specs.Frame.{errorOf}
+use Rattle.link.specs.Call.{Call, Outcome, heldIn}
+use Rattle.link.specs.Refusals.{refusalOf, silentOf, backRefusalOf}
+use Rattle.link.specs.Answer.{answerOf, backOf}
+
+-- all that was lent is left as it was, but the reply
+pub record Left (c : Call) (o : Outcome) : Type 0 where
+  pub points : o .points ≡ c .points
+  pub columns : o .columns ≡ c .columns
+  pub journal : o .journal ≡ c .journal
+  pub used : o .used ≡ c .used
+
+-- the number that comes back is the table's, for a frame and for a step back
+pub record OneNumber : Type 0 where
+  pub frame : (c : Call) → answerOf c .number ≡ refusalOf c
+  pub back : (c : Call) → backOf c .number ≡ backRefusalOf c
+
+-- "A refused frame changes no point, no column, nothing in the journal"; the step back neither
+pub record ChangesNothing : Type 0 where
+  pub frame : (c : Call) → (answerOf c .number ≡ 0 → ⊥) → Left c (answerOf c)
+  pub back : (c : Call) → (backOf c .number ≡ 0 → ⊥) → Left c (backOf c)
+
+-- "one fixed reply, or none": below 100 none, from 101 the ten bytes that number and station give; 100 and 9 are no frame's
+pub record OneReply : Type 0 where
+  pub none : (c : Call) → (answerOf c .number ≡ 0 → ⊥) → answerOf c .number < 100 → answerOf c .text ≡ []
+  pub ten : (c : Call) → 101 ≤ answerOf c .number → (answerOf c .text ≡ errorOf (c .station) (answerOf c .number)) × (length (answerOf c .text) ≡ 10)
+  pub no-other : (c : Call) → 9 ≤ answerOf c .number → 101 ≤ answerOf c .number
+  pub back : (c : Call) → (backOf c .text ≡ [])
+
+-- where no refusal without a reply holds, the number depends on frame, N and fitted axes only, and an error reply on these and the station
+pub record SameError (c d : Call) : Type 0 where
+  pub frame : c .frame ≡ d .frame
+  pub station : c .station ≡ d .station
+  pub held : heldIn (c .points) ≡ heldIn (d .points)
+  pub fitted : c .fitted ≡ d .fitted
+  pub heard : (silentOf c ≡ 0) × (silentOf d ≡ 0)
+
+abbrev pub ErrorsAgree : Type 0
+ErrorsAgree = (c d : Call) → SameError c d → (answerOf c .number ≡ answerOf d .number) × (101 ≤ answerOf c .number → answerOf c .text ≡ answerOf d .text)
