@@ -3,7 +3,7 @@ SHELL := /bin/bash
 .SHELLFLAGS := -eu -o pipefail -c
 .ONESHELL:
 .SILENT:
-.PHONY: run test second archive header host vectors differential tools
+.PHONY: run test second archive header host vectors stored differential tools
 
 STRICT := -Wall -Wextra -Werror -pedantic -Iinclude
 ARCHIVE := target/staticlib/libboard.a
@@ -32,7 +32,7 @@ test:
 	rt ci | tee "$$log"
 	last=$$(tail -n 1 "$$log")
 	[[ $$last =~ ^[0-9]+\ passed,\ 0\ failed$$ ]] || { echo "rt ci did not end in 'N passed, 0 failed': $$last" >&2; exit 1; }
-	$(MAKE) --no-print-directory second header host differential
+	$(MAKE) --no-print-directory second stored header host differential
 	echo "$$last"
 
 # the independent second program's own tests
@@ -51,17 +51,23 @@ archive:
 	rt staticlib board > /dev/null
 	mkdir -p target/host
 
-# what the second program says of its own cases
+# the cases of crates/vectors and what the second program says of them, written anew
 vectors:
+	cargo run --quiet --offline --release --manifest-path second/Cargo.toml --target-dir target/second --bin vectors -- crates/vectors
+
+# the stored cases are what the second program writes
+stored:
 	cargo run --quiet --offline --release --manifest-path second/Cargo.toml --target-dir target/second --bin vectors -- target/vectors
+	cmp target/vectors/stdin crates/vectors/stdin
+	cmp target/vectors/stdout crates/vectors/stdout
 
 # the archive: the bench listing in pieces of every length, then every vector
-host: tools archive vectors
+host: tools archive
 	$(X86CC) -std=c99 -O2 -static $(STRICT) host/bench_listing.c $(ARCHIVE) -o target/host/bench_listing
 	$(CHECKED) target/host/bench_listing
 	$(X86CC) -std=c99 -O2 -static $(STRICT) host/play_vectors.c $(ARCHIVE) -o target/host/play_vectors
-	$(X86) target/host/play_vectors < target/vectors/stdin | cmp - target/vectors/stdout
-	echo "vectors: $$(wc -l < target/vectors/stdout) calls as the second program says"
+	$(X86) target/host/play_vectors < crates/vectors/stdin | cmp - crates/vectors/stdout
+	echo "vectors: $$(wc -l < crates/vectors/stdout) calls as the second program says"
 
 # drawn calls compared with the second program, every byte of every area after each; DIFFERENTIAL_CALLS=N and DIFFERENTIAL_SEED=N for others
 differential: tools archive
