@@ -1,3 +1,4 @@
 pub mod Refused
 pub mod Sole
 pub mod Worked
+pub mod Useless

@@ -1,3 +1,4 @@
 pub mod Refused
 pub mod Sole
 pub mod Cases
+pub mod Useless

@@ -1,0 +1,43 @@
+-- Boards that are of no use, and do not meet the contract of `answer`: each is ruled out by a call of the bench.
+use Prim.Native.Nat.{ℕ}
+use mathlib.Core.Path.{_≡_}
+use mathlib.Core.List.{List}
+use lib.ListN.{take, drop}
+use Rattle.link.specs.declared.Answered.{Answered}
+use Rattle.link.specs.Call.{Call}
+use Rattle.link.specs.Answer.{answerOf}
+use Rattle.link.specs.Contract.{Answers}
+
+-- all that a board gives for a call
+pub record Given : Type 0 where
+  pub answered : Answered
+  pub points : List ℕ
+  pub columns : List ℕ
+  pub journal : List ℕ
+  pub reply : List ℕ
+
+abbrev pub Board : Type 0
+Board = Call → Given
+
+-- it meets the contract for every call
+abbrev pub Meets : Board → Type 0
+Meets board =
+    (c : Call) → Answers (answerOf c) (board c .answered) (board c .points) (board c .columns) (board c .journal) (c .reply) (board c .reply)
+
+-- the bytes that it replies
+abbrev pub repliedBy : Board → Call → List ℕ
+repliedBy board c = take (board c .answered .length) (board c .reply)
+
+pub record Useless : Type 0 where
+  -- "one that refuses all frames"
+  pub refuses-all : (board : Board) → ((c : Call) → board c .answered .number ≡ 0 → ⊥) → Meets board → ⊥
+  -- "one with a constant reply"
+  pub same-reply : (board : Board) → ((c d : Call) → repliedBy board c ≡ repliedBy board d) → Meets board → ⊥
+  -- "one that stores nothing"
+  pub stores-nothing : (board : Board) → ((c : Call) → board c .points ≡ c .points) → Meets board → ⊥
+  -- "one that stores a bulk write's first point and only acknowledges the rest": the points behind the first slot stay
+  pub stores-first : (board : Board) → ((c : Call) → drop 40 (board c .points) ≡ drop 40 (c .points)) → Meets board → ⊥
+  -- "one that invents the 208H count": its reply does not depend on the points
+  pub invents-count : (board : Board) → ((c d : Call) → c .frame ≡ d .frame → c .station ≡ d .station → repliedBy board c ≡ repliedBy board d) → Meets board → ⊥
+  -- "one that invents the used length": one number for all calls
+  pub invents-used : (board : Board) → ((c d : Call) → board c .answered .kept .used ≡ board d .answered .kept .used) → Meets board → ⊥
