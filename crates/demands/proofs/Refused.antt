@@ -18,7 +18,7 @@ use Rattle.link.specs.Refusals.{pointsFit, journalFits, axesFit, refusalOf, sil
 use Rattle.link.specs.Answer.{numberOf, unchanged, refused, done, answerOf, back, backOf}
 use Rattle.link.proofs.Rows.{three, five, seven, ownOf, saidOf, refusal-rows}
 use Rattle.link.proofs.Answering.{passed, spoken}
-use Rattle.demands.specs.Refused.{Left, OneNumber, ChangesNothing, OneReply, SameError, ErrorsAgree}
+use Rattle.demands.specs.Refused.{Left, OneNumber, ChangesNothing, OneReply, SameError, ErrorsAgree, writes, QueryChangesNothing}
 
 abbrev asked : Call → Asked
 asked c = askedOf (heldIn (c .points)) (c .fitted) (c .frame)
@@ -148,3 +148,29 @@ errors-agree c d s =
     ∙ rw (s .held, s .fitted, s .frame) refl
     ∙ sym (spoken d (passed d (s .heard .1))) ∙ sym (frame-number d) in
     (n, λ h. text-ten c h ∙ rw (n, s .station) (sym (text-ten d (subst (λ (k : ℕ). 101 ≤ k) n h))))
+
+not-both : true ≡ false → ⊥
+not-both e = let z : _≡_ {A = ℕ} 1 0 = ap (λ (b : Bool). cond b 1 0) e in omega arith
+
+-- an order that does not write leaves all as it was
+done-left : (c : Call) (a : Asked) → writes a ≡ false → Left c (done c a)
+done-left c UnknownMessage e = record { points = refl; columns = refl; journal = refl; used = refl }
+done-left c NotDigits e = record { points = refl; columns = refl; journal = refl; used = refl }
+done-left c WrongLength e = record { points = refl; columns = refl; journal = refl; used = refl }
+done-left c WrongProgram e = record { points = refl; columns = refl; journal = refl; used = refl }
+done-left c CountZero e = record { points = refl; columns = refl; journal = refl; used = refl }
+done-left c NotHeld e = record { points = refl; columns = refl; journal = refl; used = refl }
+done-left c WrongPattern e = record { points = refl; columns = refl; journal = refl; used = refl }
+done-left c TestCall e = record { points = refl; columns = refl; journal = refl; used = refl }
+done-left c CountPoints e = record { points = refl; columns = refl; journal = refl; used = refl }
+done-left c (ListPoints s k) e = record { points = refl; columns = refl; journal = refl; used = refl }
+done-left c (ReadColumns s k) e = record { points = refl; columns = refl; journal = refl; used = refl }
+done-left c (AxisStatus p) e = record { points = refl; columns = refl; journal = refl; used = refl }
+done-left c (WritePoints s k) e = absurd (not-both e)
+done-left c (ClearPoints s k) e = absurd (not-both e)
+done-left c (ChangeColumns s k) e = absurd (not-both e)
+
+pub query-changes-nothing : QueryChangesNothing
+unfolding answerOf
+query-changes-nothing c e =
+    either (Left c) (eqb (refusalOf c) 0) (λ _. done-left c (asked c) e) (λ _. record { points = refl; columns = refl; journal = refl; used = refl })

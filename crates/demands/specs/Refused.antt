@@ -1,9 +1,13 @@
 -- Demand 1: a refused frame or step back changes nothing; "a refusal has one number and one fixed reply, or none".
 use Prim.Native.Nat.{ℕ, _≤_, _<_}
 use mathlib.Core.Path.{_≡_}
+use mathlib.Core.Bool.{Bool, true, false}
 use mathlib.Core.List.{List, []}
 use lib.ListN.{length}
 use Rattle.frames.specs.Frame.{errorOf}
+use Rattle.messages.specs.declared.Asked.{Asked}
+use Rattle.messages.specs.declared.Asked.the-variants.{UnknownMessage, NotDigits, WrongLength, WrongProgram, CountZero, NotHeld, WrongPattern, TestCall, CountPoints, ListPoints, ReadColumns, AxisStatus, WritePoints, ClearPoints, ChangeColumns}
+use Rattle.messages.specs.Asked.{askedOf}
 use Rattle.link.specs.Call.{Call, Outcome, heldIn}
 use Rattle.link.specs.Refusals.{refusalOf, silentOf, backRefusalOf}
 use Rattle.link.specs.Answer.{answerOf, backOf}
@@ -42,3 +46,25 @@ pub record SameError (c d : Call) : Type 0 where
 
 abbrev pub ErrorsAgree : Type 0
 ErrorsAgree = (c d : Call) → SameError c d → (answerOf c .number ≡ answerOf d .number) × (101 ≤ answerOf c .number → answerOf c .text ≡ answerOf d .text)
+
+-- the orders that write
+abbrev pub writes : Asked → Bool
+writes (WritePoints start count) = true
+writes (ClearPoints start count) = true
+writes (ChangeColumns start count) = true
+writes UnknownMessage = false
+writes NotDigits = false
+writes WrongLength = false
+writes WrongProgram = false
+writes CountZero = false
+writes NotHeld = false
+writes WrongPattern = false
+writes TestCall = false
+writes CountPoints = false
+writes (ListPoints start count) = false
+writes (ReadColumns start count) = false
+writes (AxisStatus pattern) = false
+
+-- a query changes no point, no column and nothing in the journal either, so it is never stepped back
+abbrev pub QueryChangesNothing : Type 0
+QueryChangesNothing = (c : Call) → writes (askedOf (heldIn (c .points)) (c .fitted) (c .frame)) ≡ false → Left c (answerOf c)
