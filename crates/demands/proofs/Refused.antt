@@ -42,7 +42,7 @@ done-number c (ClearPoints s k) = refl
 done-number c (ChangeColumns s k) = refl
 
 -- either done or refused
-either : (P : Outcome → Type 0) (b : Bool) {x y : Outcome} → (b ≡ true → P x) → (b ≡ false → P y) → P (cond b x y)
+pub either : (P : Outcome → Type 0) (b : Bool) {x y : Outcome} → (b ≡ true → P x) → (b ≡ false → P y) → P (cond b x y)
 either P true f g = f refl
 either P false f g = g refl
 

@@ -2,3 +2,4 @@ pub mod Refused
 pub mod Sole
 pub mod Cases
 pub mod Useless
+pub mod Replied
