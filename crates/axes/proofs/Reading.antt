@@ -3,17 +3,12 @@ use Prim.Native.Nat.{ℕ, zero, suc, _+_, _-_, _*_, _≤_, _<_}
 use mathlib.Core.Path.{_≡_, refl, sym, ap, _∙_}
 use mathlib.Core.List.{List, [], _∷_, _++_, append-assoc, append-nil}
 use native.Mathlib.Omega.{arith}
-use native.Mathlib.Nat.{not-suc-le-zero, add-assoc}
+use native.Mathlib.Nat.{not-suc-le-zero}
 use native.Mathlib.Numerals.{add-one}
-use lib.ListN.{length, take, drop, getD, set}
-use lib.Seq.{drop-drop, take-suc-set, getD-drop, take-all}
-use Rattle.areas.specs.Bytes.{fourAt}
+use lib.ListN.{length, take, drop, set}
+use lib.Seq.{drop-drop, take-suc-set, take-all}
 use Rattle.queries.specs.declared.AxisRecord.{AxisRecord}
 use Rattle.axes.specs.Axes.{recordIn, recordsIn}
-
-pub four-drop : (bytes : List ℕ) (at k : ℕ) → fourAt (drop at bytes) k ≡ fourAt bytes (at + k)
-four-drop bytes at k =
-    rw (getD-drop at bytes k 0, getD-drop at bytes (k + 1) 0, getD-drop at bytes (k + 2) 0, getD-drop at bytes (k + 3) 0, add-assoc at k 1, add-assoc at k 2, add-assoc at k 3)
 
 recordsIn-more : (left : ℕ) (bytes : List ℕ) → 0 < left → recordsIn left bytes ≡ recordIn bytes ∷ recordsIn (left - 1) (drop 9 bytes)
 unfolding recordsIn

@@ -1,7 +1,9 @@
 -- The C calls (include/cabinet.h): what stands behind each number that is handed over or back.
 use Prim.Native.Nat.{ℕ, _-_}
+use mathlib.Core.Path.{_≡_}
 use Rattle.frames.specs.declared.finder.Found.{Found}
 use Rattle.frames.specs.declared.finder.Found.the-variants.{Frame, Nothing, Wait, TooLong}
+use Rattle.frames.specs.Find.{dropOf}
 use Rattle.link.specs.declared.Settings.{Settings}
 use Rattle.link.specs.declared.Answered.{Answered}
 use Rattle.link.specs.declared.Back.{Back}
@@ -25,6 +27,13 @@ lengthOf (Frame start used) = used - start
 lengthOf (Nothing drop) = 0
 lengthOf (Wait drop) = 0
 lengthOf (TooLong drop) = 0
+
+-- what `cabinet_receive` gives of what is found
+pub record Receives (f : Found) (code start length drop : ℕ) : Type 0 where
+  pub code-is : code ≡ codeOf f
+  pub start-is : start ≡ startOf f
+  pub length-is : length ≡ lengthOf f
+  pub drop-is : drop ≡ dropOf f
 
 -- the settings, and what a call gives back
 abbrev pub settingsOf : ℕ → ℕ → Settings

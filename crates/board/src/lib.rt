@@ -6,12 +6,11 @@ use link::Kept;
 use link::Settings;
 use link::answer;
 use link::step_back;
-ghost use mathlib.Core.Path.{_≡_};
-ghost use Rattle.frames.specs.Find.{findIn, dropOf};
+ghost use Rattle.frames.specs.Find.{findIn};
 ghost use Rattle.axes.specs.Axes.{axesIn};
 ghost use Rattle.link.specs.Answer.{answerOf, backOf};
 ghost use Rattle.link.specs.Contract.{callOf, backCall, Answers, StepsBack};
-ghost use Rattle.board.specs.Calls.{codeOf, startOf, lengthOf, settingsOf, answeredOf, backedOf};
+ghost use Rattle.board.specs.Calls.{Receives, settingsOf, answeredOf, backedOf};
 
 // 0 a frame, 1 nothing, 2 wait, 3 too long.
 #[no_mangle]
@@ -21,10 +20,7 @@ pub extern "C" fn cabinet_receive(
     length: &mut usize,
     drop: &mut usize,
 ) -> u8
-    ensures { λ r. ⌜ (r ≡ codeOf (findIn (now (received .entry))))
-        × (now (start .exit) ≡ startOf (findIn (now (received .entry))))
-        × (now (length .exit) ≡ lengthOf (findIn (now (received .entry))))
-        × (now (drop .exit) ≡ dropOf (findIn (now (received .entry)))) ⌝ }
+    ensures { λ r. ⌜ Receives (findIn (now (received .entry))) r (now (start .exit)) (now (length .exit)) (now (drop .exit)) ⌝ }
 {
     let found = find(received);
     *start = 0;

@@ -3,3 +3,7 @@ pub mod Sole
 pub mod Worked
 pub mod Useless
 pub mod Replied
+pub mod Shaped
+pub mod Wrote
+pub mod Histories
+pub mod Broken

@@ -149,7 +149,7 @@ errors-agree c d s =
     ∙ sym (spoken d (passed d (s .heard .1))) ∙ sym (frame-number d) in
     (n, λ h. text-ten c h ∙ rw (n, s .station) (sym (text-ten d (subst (λ (k : ℕ). 101 ≤ k) n h))))
 
-not-both : true ≡ false → ⊥
+pub not-both : true ≡ false → ⊥
 not-both e = let z : _≡_ {A = ℕ} 1 0 = ap (λ (b : Bool). cond b 1 0) e in omega arith
 
 -- an order that does not write leaves all as it was

@@ -3,3 +3,5 @@ pub mod Sole
 pub mod Cases
 pub mod Useless
 pub mod Replied
+pub mod History
+pub mod Broken

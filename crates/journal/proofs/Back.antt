@@ -82,7 +82,7 @@ unfolding othersOf lastOf
 others-last e [] = refl
 others-last e (f ∷ es) = ap (λ (r : List Entry). e ∷ r) (others-last f es)
 
-split-last : (es : List Entry) → 0 < length (encodes es) → es ≡ others es ++ (lastEntry es ∷ [])
+pub split-last : (es : List Entry) → 0 < length (encodes es) → es ≡ others es ++ (lastEntry es ∷ [])
 unfolding others lastEntry encodes
 split-last [] h = absurd (not-suc-le-zero h)
 split-last (e ∷ es) h = others-last e es

@@ -69,12 +69,12 @@ unfolding othersOf
 others-snoc e [] x = refl
 others-snoc e (f ∷ es) x = ap (λ (r : List Entry). e ∷ r) (others-snoc f es x)
 
-last-added : (es : List Entry) (x : Entry) → lastEntry (es ++ (x ∷ [])) ≡ x
+pub last-added : (es : List Entry) (x : Entry) → lastEntry (es ++ (x ∷ [])) ≡ x
 unfolding lastEntry lastOf
 last-added [] x = refl
 last-added (e ∷ es) x = last-snoc e es x
 
-others-added : (es : List Entry) (x : Entry) → others (es ++ (x ∷ [])) ≡ es
+pub others-added : (es : List Entry) (x : Entry) → others (es ++ (x ∷ [])) ≡ es
 unfolding others othersOf
 others-added [] x = refl
 others-added (e ∷ es) x = others-snoc e es x

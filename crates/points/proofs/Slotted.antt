@@ -81,10 +81,12 @@ lay-done left area digits at e = rw e (laid-nothing area at)
 pub two-drop : (area : List ℕ) (at k : ℕ) → twoAt (drop at area) k ≡ twoAt area (at + k)
 two-drop area at k = rw (getD-drop at area k 0, getD-drop at area (k + 1) 0, add-assoc at k 1)
 
--- positions read, one after the other
-four-drop : (area : List ℕ) (at : ℕ) → fourAt (drop at area) 0 ≡ fourAt area at
-four-drop area at = rw (getD-drop at area 0 0, getD-drop at area 1 0, getD-drop at area 2 0, getD-drop at area 3 0, add-zero at)
+-- and of four
+pub four-drop : (area : List ℕ) (at k : ℕ) → fourAt (drop at area) k ≡ fourAt area (at + k)
+four-drop area at k =
+    rw (getD-drop at area k 0, getD-drop at area (k + 1) 0, getD-drop at area (k + 2) 0, getD-drop at area (k + 3) 0, add-assoc at k 1, add-assoc at k 2, add-assoc at k 3)
 
+-- positions read, one after the other
 positionsIn-more : (left : ℕ) (slot : List ℕ) → 0 < left → positionsIn left slot ≡ position (toZ w32 (fourAt slot 0)) ∷ positionsIn (left - 1) (drop 4 slot)
 unfolding positionsIn
 positionsIn-more zero slot h = absurd (not-suc-le-zero h)
@@ -96,7 +98,7 @@ load-next area at axis ps v h l e =
     let s = drop (at + axis * 4) area in
     let d : drop 4 s ≡ drop (at + (axis + 1) * 4) area = drop-drop 4 (at + axis * 4) area ∙ ap (λ (m : ℕ). drop m area) (let q : at + axis * 4 + 4 ≡ at + (axis + 1) * 4 = omega arith in q) in
     let m : 8 - axis - 1 ≡ 8 - (axis + 1) = omega arith in
-    let f : v ≡ position (toZ w32 (fourAt s 0)) = e ∙ ap (λ (x : ℕ). position (toZ w32 x)) (sym (four-drop area (at + axis * 4))) in
+    let f : v ≡ position (toZ w32 (fourAt s 0)) = e ∙ ap (λ (x : ℕ). position (toZ w32 x)) (sym (four-drop area (at + axis * 4) 0 ∙ ap (fourAt area) (add-zero (at + axis * 4)))) in
     rw (positionsIn-more (8 - axis) s (omega arith), m, d, add-one axis, take-suc-set ps axis v (omega arith), append-assoc, f)
 
 pub load-done : (ps : List Position) (axis : ℕ) (slot : List ℕ) → length ps ≡ 8 → axis ≡ 8 → take axis ps ++ positionsIn (8 - axis) slot ≡ ps

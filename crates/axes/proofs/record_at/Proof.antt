@@ -3,9 +3,8 @@ use mathlib.Core.Path.{_≡_, refl, sym, _∙_}
 use native.Mathlib.Omega.{arith}
 use native.Mathlib.Nat.{add-zero}
 use lib.Seq.{getD-drop}
-use Rattle.points.proofs.Slotted.{two-drop}
+use Rattle.points.proofs.Slotted.{two-drop, four-drop}
 use Rattle.axes.specs.Axes.{recordIn}
-use Rattle.axes.proofs.Reading.{four-drop}
 use borrow.Author.Needs.{needs}
 use Rattle.axes.proofs.record_at.Statement.{statement}
 use Rattle.axes.proofs.record_at.Tie as tie

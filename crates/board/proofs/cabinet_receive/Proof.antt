@@ -1,9 +1,8 @@
-use mathlib.Core.Path.{_≡_, sym, ap, _∙_}
+use mathlib.Core.Path.{sym, _∙_}
 use lib.ListN.{length}
 use Prim.Native.Nat.{_≤_}
-use Rattle.frames.specs.Find.{findIn, dropOf}
 use Rattle.frames.proofs.Finding.{Within, within}
-use Rattle.board.specs.Calls.{codeOf, startOf, lengthOf}
+use Rattle.board.proofs.Received.{received}
 use borrow.Author.Needs.{needs}
 use Rattle.board.proofs.cabinet_receive.Statement.{statement}
 use Rattle.board.proofs.cabinet_receive.Tie as tie
@@ -42,25 +41,25 @@ enum-known-found-4 c = search needs
 returns : tie.Need-returns
 returns c =
     let e = sym (c .before .found .given .1) ∙ c .before .before .before .find .ensures in
-    (ap codeOf e, ap startOf e, ap lengthOf e, ap dropOf e)
+    received e
 
 -- src/lib.rt:14:1
 returns-2 : tie.Need-returns-2
 returns-2 c =
     let e = sym (c .before .found2 .given .1) ∙ c .before .before .before .find .ensures in
-    (ap codeOf e, ap startOf e, ap lengthOf e, ap dropOf e)
+    received e
 
 -- src/lib.rt:14:1
 returns-3 : tie.Need-returns-3
 returns-3 c =
     let e = sym (c .before .found3 .given .1) ∙ c .before .before .before .find .ensures in
-    (ap codeOf e, ap startOf e, ap lengthOf e, ap dropOf e)
+    received e
 
 -- src/lib.rt:14:1
 returns-4 : tie.Need-returns-4
 returns-4 c =
     let e = sym (c .before .found4 .given .1) ∙ c .before .before .before .find .ensures in
-    (ap codeOf e, ap startOf e, ap lengthOf e, ap dropOf e)
+    received e
 
 pub cabinet-receive-spec : {M : Type 1} → statement M
 cabinet-receive-spec =

@@ -1,0 +1,112 @@
+-- Demand 3 worked through: a history of a small board, and boards that break the demand. Each is ruled out by a history.
+use Prim.Native.Nat.{ℕ}
+use Prim.Native.String.{String}
+use mathlib.Core.Path.{_≡_}
+use mathlib.Core.Bool.{true, cond}
+use mathlib.Core.List.{List, [], _∷_}
+use lib.Dec.{eqb}
+use lib.ListN.{length, take, replicate}
+use Rattle.digits.specs.Text.{text}
+use Rattle.queries.specs.Replies.{zeroRecord}
+use Rattle.link.specs.Call.{Call, Outcome}
+use Rattle.link.specs.Answer.{answerOf, backOf}
+use Rattle.demands.specs.History.{Conduct, ours, Areas, fresh, Sent, Event, frame, stepBack, backOn, left, Past, past, entries, EveryHistory}
+
+-- a frame to station 99H, all eight axes fitted
+abbrev pub send : String → Sent
+send s =
+    record {
+      frame = text s;
+      eight = true;
+      records = replicate 8 zeroRecord;
+      station = 0x99;
+      fitted = 0xFF;
+      reply = replicate 1024 0;
+    }
+
+-- the lot code 0047 from column 300 on; point 1; point 1 cleared; the count; an unknown message
+abbrev pub lotCode : Sent
+lotCode = send "!9924E0012C0430303437@@\r\n"
+
+abbrev pub pointOne : Sent
+pointOne = send "!992440010010100000000000000000001@@\r\n"
+
+abbrev pub clearOne : Sent
+clearOne = send "!99246001001@@\r\n"
+
+abbrev pub count : Sent
+count = send "!99208@@\r\n"
+
+abbrev pub unknown : Sent
+unknown = send "!99299@@\r\n"
+
+-- one point and the least journal, from fresh
+abbrev pub small : Conduct → List Event → Past
+small board events = past board (record { areas = fresh 1 340; standing-writes = [] }) events
+
+pub record Worked : Type 0 where
+  -- two writes, a query and a refused frame, and a step back: it takes away the second write, and nothing else
+  pub one-taken : small ours (frame lotCode ∷ frame pointOne ∷ frame count ∷ frame unknown ∷ stepBack ∷ []) .standing-writes ≡ lotCode ∷ []
+  pub code-stays :
+      take 4 (small ours (frame lotCode ∷ frame pointOne ∷ frame count ∷ frame unknown ∷ stepBack ∷ []) .areas .columns)
+      ≡ 0x30 ∷ 0x30 ∷ 0x34 ∷ 0x37 ∷ []
+  -- a second one takes away the first, and all is fresh; a third is refused
+  pub all-taken : small ours (frame lotCode ∷ frame pointOne ∷ stepBack ∷ stepBack ∷ []) .areas ≡ fresh 1 340
+  pub none-left : backOf (backOn (small ours (frame lotCode ∷ frame pointOne ∷ stepBack ∷ stepBack ∷ []) .areas)) .number ≡ 9
+  -- eight writes of 45 bytes each: the journal has room for seven
+  pub oldest-dropped :
+      length
+      (entries
+      (small ours (frame clearOne ∷ frame clearOne ∷ frame clearOne ∷ frame clearOne ∷ frame clearOne ∷ frame clearOne ∷ frame clearOne ∷ frame clearOne ∷ []) .areas))
+      ≡ 7
+
+-- a call over other areas
+abbrev pub over : Call → Areas → Call
+over c a =
+    record {
+      frame = c .frame;
+      points = a .points;
+      columns = a .columns;
+      journal = a .journal;
+      used = a .used;
+      eight = c .eight;
+      records = c .records;
+      station = c .station;
+      fitted = c .fitted;
+      reply = c .reply;
+    }
+
+-- an outcome with other columns
+abbrev pub withColumns : Outcome → List ℕ → Outcome
+withColumns o columns = record { number = o .number; text = o .text; points = o .points; columns = columns; journal = o .journal; used = o .used }
+
+-- an entry with the new bytes in place of the old: the write is done over areas that have it already
+abbrev pub newBytes : Conduct
+newBytes =
+    record {
+      answer = λ c. answerOf (over c (record { points = answerOf c .points; columns = answerOf c .columns; journal = c .journal; used = c .used }));
+      back = backOf;
+    }
+
+-- a step back that also clears the columns
+abbrev pub clears : Conduct
+clears = record { answer = answerOf; back = λ c. withColumns (backOf c) (replicate 700 0) }
+
+-- a refusal that writes
+abbrev pub refusalWrites : Conduct
+refusalWrites = record { answer = λ c. cond (eqb (answerOf c .number) 0) (answerOf c) (withColumns (answerOf c) (replicate 700 0x30)); back = backOf }
+
+-- a board that forgets its entries at each frame
+abbrev pub forgets : Conduct
+forgets = record { answer = λ c. answerOf (over c (record { points = c .points; columns = c .columns; journal = c .journal; used = 0 })); back = backOf }
+
+-- a step back that takes nothing away
+abbrev pub takesNothing : Conduct
+takesNothing = record { answer = answerOf; back = λ c. record { number = backOf c .number; text = []; points = c .points; columns = c .columns; journal = c .journal; used = c .used } }
+
+pub record Broken : Type 0 where
+  pub new-bytes : EveryHistory newBytes → ⊥
+  pub clears-too : EveryHistory clears → ⊥
+  pub refusal-writes : EveryHistory refusalWrites → ⊥
+  pub forgets-entries : EveryHistory forgets → ⊥
+  pub takes-nothing : EveryHistory takesNothing → ⊥
