@@ -7,3 +7,11 @@ pub mod Shaped
 pub mod Wrote
 pub mod Histories
 pub mod Broken
+pub mod Commands
+pub mod Asking
+pub mod Journals
+pub mod Written
+pub mod Codes
+pub mod Slots
+pub mod Survived
+pub mod SurviveExamples

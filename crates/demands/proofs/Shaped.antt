@@ -5,9 +5,9 @@ use mathlib.Core.Bool.{Bool, true, false, cond, not, _&&_}
 use mathlib.Core.List.{List, [], _∷_, _++_}
 use native.Mathlib.Omega.{arith}
 use lib.Dec.{eqb, leb, ltb}
-use lib.ListN.{length, take, replicate, length-append, length-replicate}
+use lib.ListN.{length, take}
 use borrow.Author.Tests.{eq-eqb, ne-eqb, le-leb}
-use Rattle.journal.specs.Journal.{Entry, encodes, whole, entriesIn, areaOf}
+use Rattle.journal.specs.Journal.{Entry, encodes, entriesIn}
 use Rattle.journal.specs.Laws.{AllGood}
 use Rattle.journal.specs.Laws as journal
 use Rattle.journal.proofs.Again.{Again, again}
@@ -19,6 +19,7 @@ use Rattle.link.proofs.Rows.{refusal-rows, back-rows}
 use Rattle.demands.specs.Refused.{writes}
 use Rattle.demands.specs.History.{ours, Areas, Sent, callOn, backOn, acceptedWrite, entries}
 use Rattle.demands.proofs.Refused.{one-number}
+use Rattle.demands.proofs.Journals.{area-long}
 
 -- the lengths that document 01 asks
 pub record Bounds (n size : ℕ) : Type 0 where
@@ -39,11 +40,7 @@ module _ {n size : ℕ} (b : Bounds n size) {a : Areas} {es : List Entry} (h : S
   held = omega (arith, h .points-long)
 
   pub journal-long : length (a .journal) ≡ size
-  unfolding areaOf
-  journal-long =
-      let z : List ℕ = replicate (size - length (encodes es)) 0 in
-      let l : length z ≡ size - length (encodes es) = length-replicate (size - length (encodes es)) 0 in
-      omega (arith, ap length (h .holds .bytes) ∙ length-append (encodes es) z, h .fits)
+  journal-long = ap length (h .holds .bytes) ∙ area-long size es (h .fits)
 
   held-again : Again n es (a .journal) (a .used)
   held-again = again n size es (a .journal) (a .used) (h .holds) (h .good)

@@ -4,7 +4,6 @@ use mathlib.Core.Path.{_≡_, refl, sym, ap, ap₂, _∙_, subst}
 use mathlib.Core.Bool.{Bool, true, false, cond, _&&_}
 use mathlib.Core.List.{List, [], _∷_, _++_}
 use native.Mathlib.Omega.{arith}
-use native.Mathlib.Nat.{mul-le-mul-right}
 use lib.Dec.{eqb}
 use lib.ListN.{length, drop, replicate, length-append, length-drop, length-replicate}
 use borrow.Author.Tests.{eqb-true, eqb-false, eq-eqb, ne-eqb}
@@ -16,15 +15,12 @@ use Rattle.areas.specs.Columns.{bytesIn}
 use Rattle.areas.specs.Laws.{Run}
 use Rattle.areas.proofs.Pairs.{length-bytesIn}
 use Rattle.areas.proofs.Promised.{run}
-use Rattle.journal.specs.Journal.{Entry, encode, encodes, kept, added, areaOf, restored}
+use Rattle.journal.specs.Journal.{Entry, encodes, added, areaOf, restored}
 use Rattle.journal.specs.Laws.{Good}
 use Rattle.journal.specs.Laws as journal
 use Rattle.journal.proofs.Codec.{length-encode}
-use Rattle.journal.proofs.Adding.{encodes-snoc}
 use Rattle.journal.proofs.Again.{good-added}
-use Rattle.journal.proofs.Promised.{newest}
-use Rattle.points.specs.Point.{slotsOf, lengthOf, slotOf, pointOf}
-use Rattle.points.proofs.Slotted.{length-pointSlot}
+use Rattle.points.specs.Point.{slotsOf}
 use Rattle.writes.specs.Writes.{entryOf}
 use Rattle.writes.proofs.Held.{within, room, good, run-length, kind-points, kind-columns}
 use Rattle.messages.specs.declared.Asked.{Asked}
@@ -38,6 +34,8 @@ use Rattle.link.proofs.Carrying.{told}
 use Rattle.demands.specs.Refused.{writes}
 use Rattle.demands.specs.History.{ours, Areas, Sent, Event, frame, callOn, left, after, acceptedWrite}
 use Rattle.demands.proofs.Refused.{one-number, not-both}
+use Rattle.demands.proofs.Journals.{added-fits}
+use Rattle.demands.proofs.Slots.{slots-long}
 use Rattle.demands.proofs.Shaped.{Bounds, Shape, held, journal-long, same-entries}
 
 -- what a write orders: bytes for so many from a start number on, of one kind
@@ -102,13 +100,6 @@ pub record Did (n size : ℕ) (w : Order) (es : List Entry) (a a′ : Areas) : T
 done-accepted : (c : Call) → answerOf c .number ≡ 0 → answerOf c ≡ done c (askedOf (heldIn (c .points)) (c .fitted) (c .frame))
 unfolding answerOf
 done-accepted c e = let f : refusalOf c ≡ 0 = sym (one-number .frame c) ∙ e in rw f
-
-length-slots : (k : ℕ) (digits : List ℕ) → length (slotsOf k digits) ≡ k * 40
-unfolding slotsOf
-length-slots zero digits = refl
-length-slots (suc k) digits =
-    let r = drop (lengthOf digits) digits in
-    omega (arith, length-append (slotOf (pointOf digits)) (slotsOf k r), length-pointSlot digits, length-slots k r)
 
 module _ {n size : ℕ} (b : Bounds n size) {a : Areas} {es : List Entry} (h : Shape n size a es) (s : Sent) where
   same-added : (k : Kind) (start count : ℕ) (area : List ℕ) → entriesAfter (callOn a s) k start count area ≡ added size es (entryOf k start count area)
@@ -194,7 +185,7 @@ module _ {n size : ℕ} (b : Bounds n size) {a : Areas} {es : List Entry} (h : S
   carried (ReadColumns x k) e r = absurd (not-both (sym e))
   carried (AxisStatus p) e r = absurd (not-both (sym e))
   carried (WritePoints x k) e r =
-      (points-ordered x k (slotsOf k (drop 6 content)) (r .3) (r .4) (length-slots k (drop 6 content)), points-did x k _)
+      (points-ordered x k (slotsOf k (drop 6 content)) (r .3) (r .4) (slots-long k (drop 6 content)), points-did x k _)
   carried (ClearPoints x k) e r =
       (points-ordered x k (replicate (k * 40) 0) (r .0) (r .1) (length-replicate (k * 40) 0), points-did x k _)
   carried (ChangeColumns x k) e r =
@@ -272,14 +263,6 @@ module _ {n size : ℕ} (b : Bounds n size) {a a′ : Areas} {es : List Entry} (
       (omega (arith, x .1, o .numbers, o .some))
       (omega (arith, old-long, o .fits, b .largest))
 
-  added-fits : length (encodes (added size es (entryBy w a))) ≤ size
-  unfolding added
-  added-fits =
-      let e = entryBy w a in
-      let room = size - length (encode e) in
-      let l : length (encode e) ≤ size = omega (arith, length-encode e, old-long, o .fits) in
-      omega (arith, l, newest room es .fits, ap length (encodes-snoc (kept room es) e) ∙ length-append (encodes (kept room es)) (encode e))
-
   pub shaped : Shape n size a′ (added size es (entryBy w a))
   shaped =
       record {
@@ -287,5 +270,5 @@ module _ {n size : ℕ} (b : Bounds n size) {a a′ : Areas} {es : List Entry} (
         columns-long = ap length (d .columns) ∙ length-puts o columnsOf (kind-columns n) (a .columns) (h .columns-long);
         holds = d .journal;
         good = good-added n size es (entryBy w a) (h .good) entry-good;
-        fits = added-fits;
+        fits = added-fits size es (entryBy w a) (omega (arith, length-encode (entryBy w a), old-long, o .fits));
       }

@@ -1,0 +1,139 @@
+-- A command's fields, and that it passes a frame's own tests.
+use Prim.Native.Nat.{ℕ, _+_, _-_, _≤_, _<_, _^_}
+use mathlib.Core.Path.{_≡_, refl, sym, ap, _∙_}
+use mathlib.Core.Bool.{Bool, true, false, cond}
+use mathlib.Core.List.{List, [], _∷_, _++_, append-assoc}
+use native.Mathlib.Omega.{arith}
+use lib.Dec.{eqb}
+use lib.ListN.{length, take, drop, getD, length-append, length-drop}
+use lib.Seq.{length-take-le, take-append-le, drop-append-le, take-at, drop-at, getD-at}
+use borrow.Author.Tests.{eqb-true, le-leb}
+use Rattle.digits.specs.Digits.{digitOf, digitsOf, allDigits, numberOf}
+use Rattle.digits.specs.Text.{text}
+use Rattle.digits.proofs.Inverse.{inverse, and-left, and-right}
+use Rattle.frames.specs.Frame.{CR, LF, stationIn, messageIn, contentIn, scIn, scOf, shaped, sumTrue, sumOff, sumPasses, stationPasses}
+use Rattle.frames.proofs.Bools.{or-true}
+use Rattle.frames.proofs.Promised.{closed-true, says-digits}
+use Rattle.messages.specs.declared.Message.{Message}
+use Rattle.messages.specs.declared.Message.the-variants.{Count, Points, Columns, Unknown}
+use Rattle.messages.specs.Layout.{messageNumbered, messageOf}
+use Rattle.demands.specs.Survive.{before, commandOf}
+
+-- a frame with any two bytes as its SC
+abbrev framed : ℕ → List ℕ → List ℕ → List ℕ
+framed station said sc = before station said ++ (sc ++ (CR ∷ LF ∷ []))
+
+module _ (station : ℕ) (said sc : List ℕ) (two : length sc ≡ 2) where
+  -- it is seven bytes longer than what it says
+  framed-long : length (framed station said sc) ≡ length said + 7
+  framed-long = simp length-append (omega arith)
+
+  -- CR LF ends it
+  ends : framed station said sc ≡ (before station said ++ sc) ++ (CR ∷ LF ∷ [])
+  ends = sym (append-assoc (before station said) sc (CR ∷ LF ∷ []))
+
+  -- what stands before CR
+  before-long : length (before station said ++ sc) ≡ length said + 5
+  before-long = simp length-append (omega arith)
+
+  -- its last byte but one
+  is-CR : getD (framed station said sc) (length (framed station said sc) - 2) 0 ≡ CR
+  is-CR =
+      ap (λ (f : List ℕ). getD f (length (framed station said sc) - 2) 0) ends
+      ∙ getD-at (before station said ++ sc) CR (LF ∷ []) 0 (length (framed station said sc) - 2) (omega (arith, before-long, framed-long))
+
+  -- its last byte
+  is-LF : getD (framed station said sc) (length (framed station said sc) - 1) 0 ≡ LF
+  is-LF =
+      ap (λ (f : List ℕ). getD f (length (framed station said sc) - 1) 0) (ends ∙ sym (append-assoc (before station said ++ sc) (CR ∷ []) (LF ∷ [])))
+      ∙ getD-at ((before station said ++ sc) ++ (CR ∷ [])) LF [] 0 (length (framed station said sc) - 1) (simp length-append (omega (arith, before-long, framed-long)))
+
+  module _ (least : 3 ≤ length said) where
+    -- test 6: '!' first, CR LF last, 10 to 1,023 bytes
+    is-shaped : length said ≤ 1016 → shaped (framed station said sc) ≡ true
+    unfolding shaped
+    is-shaped most =
+        let l = framed-long in
+        rw (is-CR, is-LF, le-leb 10 (length (framed station said sc)) (omega arith), le-leb (length (framed station said sc)) 1023 (omega arith))
+
+    -- its ID is the first three bytes of what it says
+    is-message : messageIn (framed station said sc) ≡ take 3 said
+    is-message = take-append-le 3 said (sc ++ (CR ∷ LF ∷ [])) least
+
+    -- its content is the rest
+    is-content : contentIn (framed station said sc) ≡ drop 3 said
+    is-content =
+        ap (take (length (framed station said sc) - 10)) (drop-append-le 3 said (sc ++ (CR ∷ LF ∷ [])) least)
+        ∙ take-at (drop 3 said) (sc ++ (CR ∷ LF ∷ [])) (length (framed station said sc) - 10) (simp length-drop (omega (arith, framed-long)))
+
+  -- the SC stands behind them
+  is-sc : scIn (framed station said sc) ≡ sc
+  is-sc =
+      ap (take 2) (drop-at (before station said) (sc ++ (CR ∷ LF ∷ [])) (length (framed station said sc) - 4) (omega (arith, framed-long)))
+      ∙ take-at sc (CR ∷ LF ∷ []) 2 two
+
+-- '@@' in its place is seen as such
+off : (station : ℕ) (said : List ℕ) → sumOff (framed station said (text "@@")) ≡ true
+unfolding sumOff
+off station said = rw (is-sc station said (text "@@") refl)
+
+-- a frame that passes the tests 6 to 8 of a station, with what it says
+pub record Heard (station : ℕ) (said frame : List ℕ) : Type 0 where
+  pub has-shape : shaped frame ≡ true
+  pub has-sum : sumPasses frame ≡ true
+  pub has-station : stationPasses station frame ≡ true
+  pub message : messageIn frame ≡ take 3 said
+  pub content : contentIn frame ≡ drop 3 said
+
+-- test 8: the station's own two digits
+ours : (station : ℕ) (said sc : List ℕ) → station < 256 → stationPasses station (framed station said sc) ≡ true
+unfolding stationPasses
+ours station said sc h = says-digits (digitsOf 2 station) station refl h .1 refl
+
+-- test 7: the SC is true, or it is '@@'
+summed : (checked : Bool) (station : ℕ) (said : List ℕ) → sumPasses (commandOf checked station said) ≡ true
+unfolding sumPasses
+summed true station said = rw (closed-true (before station said))
+summed false station said = rw (off station said) (or-true (sumTrue (framed station said (text "@@"))))
+
+-- whatever its SC, if it passes
+heard-with : (station : ℕ) (said sc : List ℕ) → length sc ≡ 2 → sumPasses (framed station said sc) ≡ true → station < 256 → 3 ≤ length said → length said ≤ 1016
+    → Heard station said (framed station said sc)
+heard-with station said sc two sum byte least most =
+    record {
+      has-shape = is-shaped station said sc two least most;
+      has-sum = sum;
+      has-station = ours station said sc byte;
+      message = is-message station said sc two least;
+      content = is-content station said sc two least;
+    }
+
+-- a command is heard, with a true SC and with '@@'
+pub heard : (checked : Bool) (station : ℕ) (said : List ℕ) → station < 256 → 3 ≤ length said → length said ≤ 1016 → Heard station said (commandOf checked station said)
+heard true station said = heard-with station said (scOf (before station said)) refl (summed true station said)
+heard false station said = heard-with station said (text "@@") refl (summed false station said)
+
+-- a station that a frame's two digits write is a byte
+pub station-byte : (station : ℕ) (frame : List ℕ) → 10 ≤ length frame → stationPasses station frame ≡ true → station < 256
+unfolding stationPasses
+station-byte station frame h e =
+    let s = stationIn frame in
+    let l : length s ≡ 2 = length-take-le 2 (drop 1 frame) (simp length-drop (omega arith)) in
+    let a : allDigits s ≡ true = and-left (allDigits s) (eqb (numberOf s) station) e in
+    let v : numberOf s ≡ station = eqb-true (numberOf s) station (and-right (allDigits s) (eqb (numberOf s) station) e) in
+    let b : numberOf s < 16 ^ 2 = inverse 2 .bound s l a in
+    omega arith
+
+-- the message that an ID names
+abbrev pub messageNamed : List ℕ → Message
+messageNamed id = cond (allDigits id) (messageNumbered (numberOf id)) Unknown
+
+-- a frame's message is the one that its ID names
+pub message-of : (frame id : List ℕ) → messageIn frame ≡ id → messageOf frame ≡ messageNamed id
+unfolding messageOf
+message-of frame id e = rw e
+
+-- 208H, 209H and 210H are known
+pub named : (messageNamed (text "208") ≡ Count) × (messageNamed (text "209") ≡ Points) × (messageNamed (text "210") ≡ Columns)
+unfolding digitOf messageNumbered
+named = (refl, refl, refl)

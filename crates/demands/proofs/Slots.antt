@@ -1,0 +1,260 @@
+-- Slots as digits write them: what is listed of them, and how many are effective.
+use Prim.Native.Nat.{ℕ, zero, suc, _+_, _-_, _*_, _/_, _%_, _≤_, _<_}
+use mathlib.Core.Path.{_≡_, refl, sym, ap, ap₂, _∙_}
+use mathlib.Core.Bool.{Bool, true, false, cond, not}
+use mathlib.Core.List.{List, [], _∷_, _++_, append-assoc}
+use native.Mathlib.Nat.{zero-add, suc-add}
+use native.Mathlib.Omega.{arith}
+use lib.Bits.{bitAnd}
+use lib.Dec.{leb, eqb}
+use lib.IntN.{pos}
+use lib.ListN.{length, take, drop, getD, replicate, length-append, length-drop, take-append-drop, replicate-append-replicate, List·getD-append}
+use lib.Seq.{length-take-le, take-take, take-append-le, drop-append-le, drop-at, drop-drop}
+use borrow.Author.Tests.{leb-true, not-true}
+use Rattle.digits.specs.Digits.{digitsOf, allDigits, numberOf}
+use Rattle.digits.proofs.Inverse.{and-left, and-right}
+use Rattle.digits.specs.Laid.{laid}
+use Rattle.areas.specs.Kinds.{pointsOf, holds, runOf, put}
+use Rattle.points.specs.Units.{position}
+use Rattle.points.specs.Axes.{axesFrom, axesOf}
+use Rattle.points.specs.Point.{positionOf, positionsOf, pointOf, lengthOf, fillsOf, slotOf, slotsOf, positionsIn, pointIn, effectiveIn, pointDigits}
+use Rattle.points.proofs.Measured.{least}
+use Rattle.points.proofs.Parts.{all-take, all-drop}
+use Rattle.points.proofs.Slotted.{length-pointSlot}
+use Rattle.points.proofs.Promised.{slot, every-digit}
+use Rattle.messages.specs.Layout.{patternFits, patternsFit}
+use Rattle.queries.specs.Replies.{listing, listed}
+use Rattle.writes.proofs.Held.{within}
+use Rattle.demands.specs.Survive.{sent, fitting}
+use Rattle.demands.proofs.Written.{same-part}
+
+-- the positions that stand in bytes do not depend on what stands behind them
+positions-front : (axes : ℕ) (s r : List ℕ) → 4 * axes ≤ length s → positionsIn axes (s ++ r) ≡ positionsIn axes s
+unfolding positionsIn
+positions-front zero s r h = refl
+positions-front (suc axes) s r h =
+    let at : (i : ℕ) → i < 4 → getD (s ++ r) i 0 ≡ getD s i 0 = λ i l. List·getD-append s r 0 i (omega arith) in
+    rw (at 0 (omega arith), at 1 (omega arith), at 2 (omega arith), at 3 (omega arith), drop-append-le 4 s r (omega arith), positions-front axes (drop 4 s) r (simp length-drop (omega arith)))
+
+-- nor does the point in a slot
+slot-front : (s r : List ℕ) → length s ≡ 40 → pointIn (s ++ r) ≡ pointIn s
+unfolding pointIn
+slot-front s r l =
+    let at : (i : ℕ) → i < 40 → getD (s ++ r) i 0 ≡ getD s i 0 = λ i h. List·getD-append s r 0 i (omega arith) in
+    rw (at 0 (omega arith), at 2 (omega arith), at 3 (omega arith), at 4 (omega arith), at 5 (omega arith), at 6 (omega arith), at 7 (omega arith), drop-append-le 8 s r (omega arith), positions-front 8 (drop 8 s) r (simp length-drop (omega arith)))
+
+-- the positions that digits write do not depend on the digits behind theirs
+positions-of-front : (axes axis pattern : ℕ) (s r : List ℕ) → 8 * length (axesFrom axes axis pattern) ≤ length s → positionsOf axes pattern (s ++ r) ≡ positionsOf axes pattern s
+unfolding axesFrom positionsOf
+positions-of-front zero axis p s r h = refl
+positions-of-front (suc axes) axis p s r h =
+    go (eqb (p % 2) 1) (positions-of-front axes (suc axis) (p / 2) (drop 8 s) r) (positions-of-front axes (suc axis) (p / 2) s r) h
+  where
+    rest : List ℕ
+    rest = axesFrom axes (suc axis) (p / 2)
+
+    go : (b : Bool)
+        → (8 * length rest ≤ length (drop 8 s) → positionsOf axes (p / 2) (drop 8 s ++ r) ≡ positionsOf axes (p / 2) (drop 8 s))
+        → (8 * length rest ≤ length s → positionsOf axes (p / 2) (s ++ r) ≡ positionsOf axes (p / 2) s)
+        → 8 * length (cond b (axis ∷ rest) rest) ≤ length s
+        → cond b (positionOf (take 8 (s ++ r)) ∷ positionsOf axes (p / 2) (drop 8 (s ++ r))) (position (pos 0) ∷ positionsOf axes (p / 2) (s ++ r))
+        ≡ cond b (positionOf (take 8 s) ∷ positionsOf axes (p / 2) (drop 8 s)) (position (pos 0) ∷ positionsOf axes (p / 2) s)
+    go true ih _ h = rw (take-append-le 8 s r (omega arith), drop-append-le 8 s r (omega arith), ih (simp length-drop (omega arith)))
+    go false _ ih h = rw (ih h)
+
+module _ (digits : List ℕ) (whole-one : lengthOf digits ≤ length digits) where
+  -- the digits of the point at the front
+  first : List ℕ
+  first = take (lengthOf digits) digits
+
+  -- there are as many as its pattern says
+  first-long : length first ≡ lengthOf digits
+  unfolding first
+  first-long = length-take-le (lengthOf digits) digits whole-one
+
+  -- its pattern is there
+  same-pattern : take 2 first ≡ take 2 digits
+  unfolding first
+  same-pattern = take-take 2 (lengthOf digits) digits (omega (arith, least digits))
+
+  -- so they are one point, and no more
+  same-length : lengthOf first ≡ lengthOf digits
+  unfolding lengthOf
+  same-length = rw same-pattern
+
+  -- its positions' digits, and those of the points behind it
+  rest-of-first : drop 14 digits ≡ drop 14 first ++ drop (lengthOf digits) digits
+  unfolding first
+  rest-of-first =
+      ap (drop 14) (sym (take-append-drop (lengthOf digits) digits))
+      ∙ drop-append-le 14 first (drop (lengthOf digits) digits) (omega (arith, first-long, least digits))
+
+  -- eight for each of its axes
+  enough : 8 * length (axesOf (numberOf (take 2 digits))) ≤ length (drop 14 first)
+  unfolding lengthOf
+  enough = simp length-drop (omega (arith, first-long))
+
+  -- its positions are those that all the digits write
+  same-positions : positionsOf 8 (numberOf (take 2 digits)) (drop 14 first) ≡ positionsOf 8 (numberOf (take 2 digits)) (drop 14 digits)
+  unfolding axesOf
+  same-positions =
+      sym
+      (ap (positionsOf 8 (numberOf (take 2 digits))) rest-of-first
+      ∙ positions-of-front 8 0 (numberOf (take 2 digits)) (drop 14 first) (drop (lengthOf digits) digits) enough)
+
+  -- and so is the point
+  same-point : pointOf first ≡ pointOf digits
+  unfolding first pointOf
+  same-point =
+      let l = least digits in
+      rw (
+        same-pattern,
+        same-part 4 2 (lengthOf digits) digits (omega arith),
+        same-part 4 6 (lengthOf digits) digits (omega arith),
+        same-part 4 10 (lengthOf digits) digits (omega arith),
+        same-positions,
+      )
+
+  -- the slot of that point, whatever stands behind it, says its very digits back
+  pub digits-back : (r : List ℕ) → allDigits digits ≡ true → pointDigits (pointIn (slotOf (pointOf digits) ++ r)) ≡ take (lengthOf digits) digits
+  unfolding first
+  digits-back r a =
+      let e = every-digit first (first-long ∙ sym same-length) (all-take (lengthOf digits) digits a) in
+      let f = rw same-point at (e .0) in
+      ap pointDigits (slot-front (slotOf (pointOf digits)) r (length-pointSlot digits) ∙ slot (pointOf digits) f .read-back ∙ sym same-point) ∙ e .1
+
+-- a slot starts with its pattern
+slot-pattern : (digits r : List ℕ) → getD (slotOf (pointOf digits) ++ r) 0 0 ≡ numberOf (take 2 digits)
+unfolding slotOf pointOf
+slot-pattern digits r = refl
+
+-- a pattern that passed is not 00
+pattern-some : (fitted pattern : ℕ) → patternFits fitted pattern ≡ true → eqb pattern 0 ≡ false
+unfolding patternFits
+pattern-some fitted pattern e = not-true _ (and-left (not (eqb pattern 0)) (eqb (bitAnd pattern fitted) pattern) e)
+
+-- a slot is forty bytes
+slot-behind : (digits r : List ℕ) → drop 40 (slotOf (pointOf digits) ++ r) ≡ r
+slot-behind digits r = drop-at (slotOf (pointOf digits)) r 40 (length-pointSlot digits)
+
+-- what the tests of 244H tell of its first point, and of those behind it
+module _ (fitted count : ℕ) (digits : List ℕ) where
+  -- the first has all its digits
+  first-fills : fillsOf (suc count) digits ≡ true → lengthOf digits ≤ length digits
+  unfolding fillsOf
+  first-fills e = leb-true _ _ (and-left (leb (lengthOf digits) (length digits)) (fillsOf count (drop (lengthOf digits) digits)) e)
+
+  -- what is left is the others
+  rest-fills : fillsOf (suc count) digits ≡ true → fillsOf count (drop (lengthOf digits) digits) ≡ true
+  unfolding fillsOf
+  rest-fills e = and-right (leb (lengthOf digits) (length digits)) (fillsOf count (drop (lengthOf digits) digits)) e
+
+  -- the first is effective
+  first-pattern : patternsFit fitted (suc count) digits ≡ true → eqb (numberOf (take 2 digits)) 0 ≡ false
+  unfolding patternsFit
+  first-pattern e = pattern-some fitted (numberOf (take 2 digits)) (and-left (patternFits fitted (numberOf (take 2 digits))) (patternsFit fitted count (drop (lengthOf digits) digits)) e)
+
+  -- the others' patterns passed too
+  rest-patterns : patternsFit fitted (suc count) digits ≡ true → patternsFit fitted count (drop (lengthOf digits) digits) ≡ true
+  unfolding patternsFit
+  rest-patterns e = and-right (patternFits fitted (numberOf (take 2 digits))) (patternsFit fitted count (drop (lengthOf digits) digits)) e
+
+-- one effective slot, listed as its digits were sent
+listed-one : (room count number : ℕ) (slots s rest : List ℕ) → eqb (getD slots 0 0) 0 ≡ false → listing number slots ≡ s → drop 40 slots ≡ rest
+    → listed room (suc count) number slots ≡ cond (leb (length s) room) (s ∷ listed (room - length s) count (suc number) rest) []
+unfolding listed
+listed-one room count number slots s rest p e d =
+    rw p (ap₂ (λ (x y : List ℕ). cond (leb (length x) room) (x ∷ listed (room - length x) count (suc number) y) []) e d)
+
+-- the slots of points that were sent are listed as they were sent, as many as fit
+pub listed-sent : (fitted count room number : ℕ) (digits rest : List ℕ) → fillsOf count digits ≡ true → allDigits digits ≡ true → patternsFit fitted count digits ≡ true
+    → listed room count number (slotsOf count digits ++ rest) ≡ fitting room (sent count number digits)
+unfolding listed fitting sent slotsOf
+listed-sent fitted zero room number digits rest f a p = refl
+listed-sent fitted (suc count) room number digits rest f a p =
+    let slot = slotOf (pointOf digits) in
+    let digits′ = drop (lengthOf digits) digits in
+    let s = digitsOf 3 number ++ take (lengthOf digits) digits in
+    let l = slotsOf count digits′ ++ rest in
+    let split : (slot ++ slotsOf count digits′) ++ rest ≡ slot ++ l = append-assoc slot (slotsOf count digits′) rest in
+    ap (listed room (suc count) number) split
+    ∙ listed-one room count number (slot ++ l) s l (ap (λ (x : ℕ). eqb x 0) (slot-pattern digits l) ∙ first-pattern fitted count digits p)
+    (ap (λ (x : List ℕ). digitsOf 3 number ++ x) (digits-back digits (first-fills fitted count digits f) l a))
+    (slot-behind digits l)
+    ∙ ap (λ (x : List (List ℕ)). cond (leb (length s) room) (s ∷ x) [])
+    (listed-sent fitted count (room - length s) (suc number) digits′ rest (rest-fills fitted count digits f) (all-drop (lengthOf digits) digits a) (rest-patterns fitted count digits p))
+
+-- slots have forty bytes each
+pub slots-long : (count : ℕ) (digits : List ℕ) → length (slotsOf count digits) ≡ count * 40
+unfolding slotsOf
+slots-long zero digits = refl
+slots-long (suc count) digits =
+    let n = slots-long count (drop (lengthOf digits) digits) in
+    length-append (slotOf (pointOf digits)) (slotsOf count (drop (lengthOf digits) digits)) ∙ omega (arith, length-pointSlot digits)
+
+-- each point that was sent is effective
+pub effective-sent : (fitted count : ℕ) (digits : List ℕ) → patternsFit fitted count digits ≡ true → effectiveIn count (slotsOf count digits) ≡ count
+unfolding effectiveIn slotsOf
+effective-sent fitted zero digits p = refl
+effective-sent fitted (suc count) digits p =
+    let digits′ = drop (lengthOf digits) digits in
+    let h = effective-sent fitted count digits′ (rest-patterns fitted count digits p) in
+    let e : eqb (getD (slotOf (pointOf digits) ++ slotsOf count digits′) 0 0) 0 ≡ false =
+    ap (λ (x : ℕ). eqb x 0) (slot-pattern digits (slotsOf count digits′)) ∙ first-pattern fitted count digits p in
+    rw (e, slot-behind digits (slotsOf count digits′)) (omega arith)
+
+-- cleared slots, one by one
+zero-slots : (count : ℕ) → replicate {A = ℕ} (suc count * 40) 0 ≡ replicate 40 0 ++ replicate (count * 40) 0
+zero-slots count =
+    let e : suc count * 40 ≡ 40 + count * 40 = omega arith in
+    ap (λ (x : ℕ). replicate {A = ℕ} x 0) e ∙ sym (replicate-append-replicate 40 (count * 40) 0)
+
+-- none of them is listed
+pub listed-zero : (room count number : ℕ) (rest : List ℕ) → listed room count number (replicate (count * 40) 0 ++ rest) ≡ []
+unfolding listed
+listed-zero room zero number rest = refl
+listed-zero room (suc count) number rest = rw (zero-slots count) (listed-zero room count (suc number) rest)
+
+-- none of them is effective
+pub effective-zero : (count : ℕ) → effectiveIn count (replicate (count * 40) 0) ≡ 0
+unfolding effectiveIn
+effective-zero zero = refl
+effective-zero (suc count) = rw (zero-slots count) (let h = effective-zero count in omega arith)
+
+-- slots counted in two parts
+effective-parts : (a b : ℕ) (s t : List ℕ) → length s ≡ a * 40 → effectiveIn (a + b) (s ++ t) ≡ effectiveIn a s + effectiveIn b t
+unfolding effectiveIn
+effective-parts zero b [] t l = rw (zero-add b) (sym (zero-add (effectiveIn b t)))
+effective-parts zero b (x ∷ s) t l = absurd (omega arith)
+effective-parts (suc a) b s t l =
+    let h = effective-parts a b (drop 40 s) t (simp length-drop (omega arith)) in
+    rw (suc-add a b, List·getD-append s t 0 0 (omega arith), drop-append-le 40 s t (omega arith)) (omega arith)
+
+-- an area in three parts: before a run, the run, and behind it
+effective-three : (n at count : ℕ) (s t u : List ℕ) → at + count ≤ n → length s ≡ at * 40 → length t ≡ count * 40
+    → effectiveIn n (s ++ (t ++ u)) ≡ effectiveIn at s + (effectiveIn count t + effectiveIn (n - (at + count)) u)
+effective-three n at count s t u h l k =
+    let e : n ≡ at + (count + (n - (at + count))) = omega arith in
+    ap (λ (x : ℕ). effectiveIn x (s ++ (t ++ u))) e
+    ∙ effective-parts at (count + (n - (at + count))) s (t ++ u) l
+    ∙ ap (λ (x : ℕ). effectiveIn at s + x) (effective-parts count (n - (at + count)) t u k)
+
+-- slots put over others: each effective one counts once
+pub effective-put : (n start count : ℕ) (bytes area : List ℕ) → holds (pointsOf n) start count ≡ true → length area ≡ n * 40 → length bytes ≡ count * 40
+    → effectiveIn n (put (pointsOf n) start bytes area) + effectiveIn count (runOf (pointsOf n) start count area) ≡ effectiveIn n area + effectiveIn count bytes
+unfolding put runOf laid
+effective-put n start count bytes area h l k =
+    let w = within (pointsOf n) start count h in
+    let at : ℕ = start - 1 in
+    let s : List ℕ = take (at * 40) area in
+    let t : List ℕ = take (count * 40) (drop (at * 40) area) in
+    let u : List ℕ = drop (at * 40 + count * 40) area in
+    let ls : length s ≡ at * 40 = length-take-le (at * 40) area (omega arith) in
+    let lt : length t ≡ count * 40 = length-take-le (count * 40) (drop (at * 40) area) (simp length-drop (omega arith)) in
+    let old : area ≡ s ++ (t ++ u) =
+    sym (take-append-drop (at * 40) area)
+    ∙ ap (λ (x : List ℕ). s ++ x) (sym (take-append-drop (count * 40) (drop (at * 40) area)) ∙ ap (λ (x : List ℕ). t ++ x) (drop-drop (count * 40) (at * 40) area)) in
+    let new : s ++ (bytes ++ drop (at * 40 + length bytes) area) ≡ s ++ (bytes ++ u) = ap (λ (x : ℕ). s ++ (bytes ++ drop (at * 40 + x) area)) k in
+    let a = ap (effectiveIn n) new ∙ effective-three n at count s bytes u (omega arith) ls k in
+    let b = ap (effectiveIn n) old ∙ effective-three n at count s t u (omega arith) ls lt in
+    omega arith
