@@ -15,3 +15,4 @@ pub mod Codes
 pub mod Slots
 pub mod Survived
 pub mod SurviveExamples
+pub mod Examples

@@ -6,3 +6,4 @@ pub mod Replied
 pub mod Survive
 pub mod History
 pub mod Broken
+pub mod Examples

@@ -103,12 +103,13 @@ pub record PointsCleared (c : Call) : Type 0 where
   pub others : Outside (pointsOf (heldIn (c .points))) (startOf Clear (contentIn (c .frame))) (countOf Clear (contentIn (c .frame))) (c .points) (answerOf c .points)
   pub columns : answerOf c .columns ≡ c .columns
 
+-- every accepted call of the three, on every board
 pub record EveryDigitSurvives : Type 0 where
   pub codes : (c : Call) → Accepted Change c → CodesSurvive c
   pub points : (c : Call) → Accepted Write c → PointsSurvive c
   pub cleared : (c : Call) → Accepted Clear c → PointsCleared c
 
--- such calls are made: a 24EH of the lot code 0047, the bench's 244H, and a 246H of its point, each to a fresh bench
+-- such calls are made, each to a fresh bench: a 24EH of the lot code 0047, the bench listing's 244H of point 1, and a 246H of point 1
 abbrev pub codeCall : Call
 codeCall = bench fresh (text "!9924E0012C0430303437@@\r\n")
 
@@ -118,11 +119,12 @@ pointCall = bench fresh (text "!9924400100103001E001E00640000C350FFFFFFFFF3\r\n"
 abbrev pub clearCall : Call
 clearCall = bench fresh (text "!99246001001@@\r\n")
 
+-- the statement's premises are met by them, and this is what it says of them
 pub record Examples : Type 0 where
   pub code : Accepted Change codeCall
   pub point : Accepted Write pointCall
   pub clear : Accepted Clear clearCall
-  -- the frame of proved case 7, asked after the lot code was sent, and a 209H after the bench's point and after its clearing
+  -- asked after them: the frame of proved case 7, and a 209H of point 1
   pub code-back : answerOf (nextCall codeCall (text "!992100012C0490\r\n")) .text ≡ text "#992100012C043030343729\r\n"
   pub point-back : answerOf (nextCall pointCall (text "!99209001001@@\r\n")) .text ≡ replyOf normal 0x99 (text "20900100103001E001E00640000C350FFFFFFFF")
   pub clear-back : answerOf (nextCall clearCall (text "!99209001001@@\r\n")) .text ≡ replyOf normal 0x99 (text "209000")
