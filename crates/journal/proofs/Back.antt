@@ -55,11 +55,18 @@ seek-first n b e h w =
     let q = front-le n b in
     record { is = omega arith; more = omega arith; within = omega arith; good = w; same = zero-add _ }
 
+-- what is behind the entry is whole
+pub seek-whole : (n : ℕ) (b : List ℕ) (at next : ℕ) → Seek n b at next → whole n 0 (drop next b) ≡ true
+seek-whole n b at next h =
+    let u : ℕ = frontOf n (drop at b) in
+    let p : 0 < u = omega (arith, h .is, h .more) in
+    rw (h .is) (turn-whole n u at b refl p ∙ h .good)
+
 pub seek-next : (n : ℕ) (b : List ℕ) (at next s : ℕ) → Seek n b at next → next < length b → s ≡ frontOf n (drop next b) → Seek n b next (next + s)
 seek-next n b at next s h k e =
     let u : ℕ = frontOf n (drop at b) in
     let p : 0 < u = omega (arith, h .is, h .more) in
-    let w : whole n 0 (drop next b) ≡ true = rw (h .is) (turn-whole n u at b refl p ∙ h .good) in
+    let w : whole n 0 (drop next b) ≡ true = seek-whole n b at next h in
     let w′ : whole n 0 (drop (at + u) b) ≡ true = rw (h .is) at w in
     let q : 0 < s = turn-some n s next b e w k in
     let f : before (entriesIn n 0 (drop at b)) ≡ u + before (entriesIn n 0 (drop next b)) =

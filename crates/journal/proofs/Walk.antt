@@ -113,6 +113,10 @@ pub entries-front : (n s : ℕ) (l : List ℕ) → frontOf n l ≡ s → 0 < s �
 entries-front n zero l e h = absurd (not-suc-le-zero h)
 entries-front n (suc s) l e h = entries-good n s l e (subst (λ (k : ℕ). k ≤ length l) e (front-le n l))
 
+-- whole entries start with one
+pub front-whole : (n : ℕ) (l : List ℕ) → 0 < length l → whole n 0 l ≡ true → AtFront n l
+front-whole n l h w = at-front n l (whole-some n l w h)
+
 -- a turn of a loop that walks b, at a place where an entry of s bytes stands
 module _ (n s at : ℕ) (b : List ℕ) (is : s ≡ frontOf n (drop at b)) where
   pub turn-le : at ≤ length b → at + s ≤ length b
@@ -136,6 +140,11 @@ whole-end n at b h = rw (drop-of-length-le b h)
 -- what is lent as &b[at..]
 pub part-rest : (at : ℕ) (b : List ℕ) → take (length b - at) (drop at b) ≡ drop at b
 part-rest at b = take-all (length b - at) (drop at b) (simp length-drop (omega arith))
+
+-- and what is lent of whole entries from an entry on is whole
+pub part-whole : (n at : ℕ) (b : List ℕ) → at < length b → whole n 0 (drop at b) ≡ true
+    → (0 < length (take (length b - at) (drop at b))) × (whole n 0 (take (length b - at) (drop at b)) ≡ true)
+part-whole n at b h w = rw (part-rest at b) (simp length-drop (omega arith), w)
 
 pub length-entryAt : (n s : ℕ) (l : List ℕ) → frontOf n l ≡ s → 0 < s → length (encode (entryAt s l)) ≡ s
 unfolding encode entryAt

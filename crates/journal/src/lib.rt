@@ -86,6 +86,14 @@ pub fn is_whole(bytes: &[u8], n: usize) -> bool
     true
 }
 
+// How long the entry at the front of whole entries is: its own length says it, and it isn't tested again.
+fn entry_length(bytes: &[u8], n: usize) -> usize
+    requires { ⌜ (0 < length (now bytes)) × (whole n 0 (now bytes) ≡ true) ⌝ }
+    ensures { λ r. ⌜ r ≡ frontOf n (now (bytes .entry)) ⌝ }
+{
+    two_at(bytes, 1) + 3
+}
+
 // How many bytes of whole entries go from the front, so that at least so many do, and no entry more.
 fn cut(bytes: &[u8], over: usize, n: usize) -> usize
     requires { ⌜ (n ≤ 1500) × (over ≤ length (now bytes)) × (whole n 0 (now bytes) ≡ true) ⌝ }
@@ -93,7 +101,7 @@ fn cut(bytes: &[u8], over: usize, n: usize) -> usize
 {
     let mut at = 0;
     while at < over {
-        at += front(&bytes[at..], n);
+        at += entry_length(&bytes[at..], n);
     }
     at
 }
@@ -155,10 +163,10 @@ fn last_at(bytes: &[u8], n: usize) -> usize
     ensures { λ r. ⌜ r ≡ length (encodes (others (entriesIn n 0 (now (bytes .entry))))) ⌝ }
 {
     let mut at = 0;
-    let mut next = front(bytes, n);
+    let mut next = entry_length(bytes, n);
     while next < bytes.len() {
         at = next;
-        next += front(&bytes[next..], n);
+        next += entry_length(&bytes[next..], n);
     }
     at
 }

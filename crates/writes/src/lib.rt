@@ -2,6 +2,7 @@
 use areas::columns::set_columns;
 use areas::runs::clear_run;
 use journal::add;
+use points::point::Point;
 use points::slots::lay_points;
 ghost use mathlib.Core.Path.{_≡_};
 ghost use mathlib.Core.Bool.{true};
@@ -28,8 +29,8 @@ pub fn write_points(
     requires { ⌜ Ready n (pointsOf n) start count (now points) (now journal) used ⌝ }
     ensures { λ r. ⌜ Written n (pointsOf n) start count (slotsOf count (now (digits .entry))) (now (points .entry)) (now (points .exit)) (now (journal .entry)) (now (journal .exit)) used r ⌝ }
 {
-    let at = (start - 1) * 40;
-    let end = at + count * 40;
+    let at = (start - 1) * Point::SLOT;
+    let end = at + count * Point::SLOT;
     let r = add(journal, used, 0x50, start, &points[at..end], n);
     lay_points(points, at, digits, count);
     r
@@ -48,8 +49,8 @@ pub fn clear_points(
     requires { ⌜ Ready n (pointsOf n) start count (now points) (now journal) used ⌝ }
     ensures { λ r. ⌜ Written n (pointsOf n) start count (replicate (count * 40) 0) (now (points .entry)) (now (points .exit)) (now (journal .entry)) (now (journal .exit)) used r ⌝ }
 {
-    let at = (start - 1) * 40;
-    let many = count * 40;
+    let at = (start - 1) * Point::SLOT;
+    let many = count * Point::SLOT;
     let r = add(journal, used, 0x50, start, &points[at..at + many], n);
     clear_run(points, at, many);
     r

@@ -4,7 +4,7 @@ use native.Mathlib.Omega.{arith}
 use borrow.Author.Needs.{needs}
 use lib.ListN.{length}
 use Rattle.journal.specs.Journal.{frontOf}
-use Rattle.journal.proofs.Walk.{part-rest}
+use Rattle.journal.proofs.Walk.{part-rest, part-whole}
 use Rattle.journal.proofs.Codec.{Bytes}
 use Rattle.journal.proofs.Keeping.{Cutting, cutting-first, cutting-next, cutting-done}
 use Rattle.journal.proofs.cut.Statement.{statement}
@@ -16,13 +16,13 @@ Inv-loop bytes over n at₀ at = Cutting n over bytes at
 abbrev μ-loop : tie.MeasureT-loop
 μ-loop bytes over n at₀ at = length bytes - at
 
-abbrev start : tie.After-front Inv-loop μ-loop → tie.Start Inv-loop μ-loop
+abbrev start : tie.After-entry-length Inv-loop μ-loop → tie.Start Inv-loop μ-loop
 start c = c .before .before .before .before .before
 
-abbrev next : tie.After-front Inv-loop μ-loop → ℕ
-next c = c .before .before .before .loop .at + c .front .result
+abbrev next : tie.After-entry-length Inv-loop μ-loop → ℕ
+next c = c .before .before .before .loop .at + c .entry-length .result
 
-turn : (c : tie.After-front Inv-loop μ-loop)
+turn : (c : tie.After-entry-length Inv-loop μ-loop)
     → (c .before .before .before .loop .at < next c) × Cutting (start c .args .n) (start c .args .over) (start c .args .bytes .now) (next c)
 turn c =
     let s = start c in
@@ -30,25 +30,28 @@ turn c =
     cutting-next (s .args .n) (s .args .over) (s .args .bytes .now) (λ i. c .before .before .before .before .shared-slice-known .given i .fits)
     (g .at)
     (g .inv)
-    (c .front .result)
-    (c .front .ensures ∙ ap (frontOf (s .args .n)) (part-rest (g .at) (s .args .bytes .now)))
+    (c .entry-length .result)
+    (c .entry-length .ensures ∙ ap (frontOf (s .args .n)) (part-rest (g .at) (s .args .bytes .now)))
     (s .pre .1)
     (c .before .before .loop-test .taken)
 
 loop-holds : tie.Need-loop-holds Inv-loop μ-loop
 loop-holds c = cutting-first (c .before .args .n) (c .before .args .over) (c .before .args .bytes .now) (c .before .pre .2)
 
-sub-front : tie.Need-sub-front Inv-loop μ-loop
-sub-front c = search needs
+sub-entry-length : tie.Need-sub-entry-length Inv-loop μ-loop
+sub-entry-length c = search needs
 
-part-front-start : tie.Need-part-front-start Inv-loop μ-loop
-part-front-start c = search needs
+part-entry-length-start : tie.Need-part-entry-length-start Inv-loop μ-loop
+part-entry-length-start c = search needs
 
-part-front-end : tie.Need-part-front-end Inv-loop μ-loop
-part-front-end c = search needs
+part-entry-length-end : tie.Need-part-entry-length-end Inv-loop μ-loop
+part-entry-length-end c = search needs
 
-front-requires : tie.Need-front-requires Inv-loop μ-loop
-front-requires c κs = search needs
+entry-length-requires : tie.Need-entry-length-requires Inv-loop μ-loop
+entry-length-requires c κs =
+    let s = c .before .before .before .before in
+    let g = c .before .before .loop in
+    part-whole (s .args .n) (g .at) (s .args .bytes .now) (omega (arith, c .before .loop-test .taken, s .pre .1)) (g .inv .good)
 
 add-at : tie.Need-add-at Inv-loop μ-loop
 add-at c = let t = turn c in omega arith
@@ -76,10 +79,10 @@ cut-spec =
     Inv-loop
     μ-loop
     loop-holds
-    sub-front
-    part-front-start
-    part-front-end
-    front-requires
+    sub-entry-length
+    part-entry-length-start
+    part-entry-length-end
+    entry-length-requires
     add-at
     loop-less
     loop-again

@@ -4,8 +4,8 @@ use native.Mathlib.Omega.{arith}
 use borrow.Author.Needs.{needs}
 use lib.ListN.{length}
 use Rattle.journal.specs.Journal.{frontOf}
-use Rattle.journal.proofs.Walk.{part-rest}
-use Rattle.journal.proofs.Back.{before, Seek, seek-first, seek-next, seek-done}
+use Rattle.journal.proofs.Walk.{part-rest, part-whole}
+use Rattle.journal.proofs.Back.{before, Seek, seek-first, seek-whole, seek-next, seek-done}
 use Rattle.journal.proofs.last_at.Statement.{statement}
 use Rattle.journal.proofs.last_at.Tie as tie
 
@@ -15,34 +15,37 @@ Inv-loop bytes n at₀ next₀ at next = Seek n bytes at next
 abbrev μ-loop : tie.MeasureT-loop
 μ-loop bytes n at₀ next₀ at next = length bytes - next
 
-abbrev start : tie.After-front2 Inv-loop μ-loop → tie.Start Inv-loop μ-loop
+abbrev start : tie.After-entry-length2 Inv-loop μ-loop → tie.Start Inv-loop μ-loop
 start c = c .before .before .before .before .before .before
 
-turn : (c : tie.After-front2 Inv-loop μ-loop)
-    → Seek (start c .args .n) (start c .args .bytes .now) (c .before .before .before .loop .next) (c .before .before .before .loop .next + c .front2 .result)
+turn : (c : tie.After-entry-length2 Inv-loop μ-loop)
+    → Seek (start c .args .n) (start c .args .bytes .now) (c .before .before .before .loop .next) (c .before .before .before .loop .next + c .entry-length2 .result)
 turn c =
     let s = start c in
     let g = c .before .before .before .loop in
-    seek-next (s .args .n) (s .args .bytes .now) (g .at) (g .next) (c .front2 .result) (g .inv) (c .before .before .loop-test .taken)
-    (c .front2 .ensures ∙ ap (frontOf (s .args .n)) (part-rest (g .next) (s .args .bytes .now)))
+    seek-next (s .args .n) (s .args .bytes .now) (g .at) (g .next) (c .entry-length2 .result) (g .inv) (c .before .before .loop-test .taken)
+    (c .entry-length2 .ensures ∙ ap (frontOf (s .args .n)) (part-rest (g .next) (s .args .bytes .now)))
 
-front-requires : tie.Need-front-requires Inv-loop μ-loop
-front-requires c κs = search needs
+entry-length-requires : tie.Need-entry-length-requires Inv-loop μ-loop
+entry-length-requires c κs = search needs
 
 loop-holds : tie.Need-loop-holds Inv-loop μ-loop
-loop-holds c = let s = c .before .before in seek-first (s .args .n) (s .args .bytes .now) (c .front .ensures) (s .pre .1) (s .pre .2)
+loop-holds c = let s = c .before .before in seek-first (s .args .n) (s .args .bytes .now) (c .entry-length .ensures) (s .pre .1) (s .pre .2)
 
-sub-front : tie.Need-sub-front Inv-loop μ-loop
-sub-front c = search needs
+sub-entry-length : tie.Need-sub-entry-length Inv-loop μ-loop
+sub-entry-length c = search needs
 
-part-front-start : tie.Need-part-front-start Inv-loop μ-loop
-part-front-start c = search needs
+part-entry-length-start : tie.Need-part-entry-length-start Inv-loop μ-loop
+part-entry-length-start c = search needs
 
-part-front-end : tie.Need-part-front-end Inv-loop μ-loop
-part-front-end c = search needs
+part-entry-length-end : tie.Need-part-entry-length-end Inv-loop μ-loop
+part-entry-length-end c = search needs
 
-front-requires-2 : tie.Need-front-requires-2 Inv-loop μ-loop
-front-requires-2 c κs = search needs
+entry-length-requires-2 : tie.Need-entry-length-requires-2 Inv-loop μ-loop
+entry-length-requires-2 c κs =
+    let s = c .before .before .before .before .before in
+    let g = c .before .before .loop in
+    part-whole (s .args .n) (g .next) (s .args .bytes .now) (c .before .loop-test .taken) (seek-whole (s .args .n) (s .args .bytes .now) (g .at) (g .next) (g .inv))
 
 add-next : tie.Need-add-next Inv-loop μ-loop
 add-next c = let t = turn c in omega arith
@@ -65,12 +68,12 @@ last-at-spec =
     (tie.spec
     Inv-loop
     μ-loop
-    front-requires
+    entry-length-requires
     loop-holds
-    sub-front
-    part-front-start
-    part-front-end
-    front-requires-2
+    sub-entry-length
+    part-entry-length-start
+    part-entry-length-end
+    entry-length-requires-2
     add-next
     loop-less
     loop-again
