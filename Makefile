@@ -3,10 +3,12 @@ SHELL := /bin/bash
 .SHELLFLAGS := -eu -o pipefail -c
 .ONESHELL:
 .SILENT:
-.PHONY: run test second archive header host vectors stored differential tools
+.PHONY: run test second archive header host vectors stored differential benchmark tools
 
 STRICT := -Wall -Wextra -Werror -pedantic -Iinclude
 ARCHIVE := target/staticlib/libboard.a
+# host/plain.c under the archive's names
+AS_ARCHIVE := -Dplain_receive=cabinet_receive -Dplain_answer=cabinet_answer -Dplain_step_back=cabinet_step_back
 
 # The product is x86-64 code. On another processor it's linked by a cross compiler and run by the toolchain's emulator.
 ifeq ($(shell uname -m),x86_64)
@@ -17,6 +19,7 @@ else
   X86 := /opt/rattle/on/$(shell uname -m)/toolchain/bin/qemu-x86_64
 endif
 KIT := /opt/rattle/on/$(shell uname -m)/toolchain/lib
+comma := ,
 # under valgrind where it can be: it doesn't run the other processor's code
 CHECKED := $(if $(X86),$(X86),valgrind --quiet --error-exitcode=1)
 
@@ -73,3 +76,12 @@ host: tools archive
 differential: tools archive
 	$(X86CC) -std=c99 -O2 -static $(STRICT) host/play_calls.c $(ARCHIVE) -o target/host/play_calls
 	PLAYER="$(X86) target/host/play_calls" cargo run --quiet --offline --release --manifest-path second/Cargo.toml --target-dir target/second --bin differential
+
+# the archive's time beside host/plain.c's, which is compared first as the archive is. The emulator runs `rep stosb`, the C library's way to fill
+# long areas, byte by byte; without ERMS the library takes another.
+benchmark: tools archive
+	gcc -std=c99 -O2 $(STRICT) $(AS_ARCHIVE) host/play_calls.c host/plain.c -o target/host/play_plain
+	PLAYER="target/host/play_plain" cargo run --quiet --offline --release --manifest-path second/Cargo.toml --target-dir target/second --bin differential | tail -n 1
+	$(X86CC) -std=c99 -O2 -static $(STRICT) host/benchmark.c host/plain.c $(ARCHIVE) -o target/host/benchmark
+	echo "$$(lscpu | sed -n 's/^Model name: *//p')$(if $(X86),$(comma) x86-64 code under the emulator)"
+	QEMU_CPU=max,-erms $(X86) target/host/benchmark

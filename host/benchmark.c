@@ -1,0 +1,641 @@
+/*
+ * benchmark.c: the archive's calls beside plain.c's, in one process, on the same buffers and frames.
+ *
+ * Each trial is first made by both, a few times over; the number, the reply and every area must be the
+ * same, else it exits 1. Then both are timed in turns, and the best turn of each counts. The table goes
+ * to standard output.
+ *
+ * Every call of a trial does the same work. Before each (`put_back`) the used length is set again, so a
+ * write finds the same entries before it; only its old bytes are then the ones it wrote. Where a journal
+ * is full of entries as long as the write's own, one is dropped and one is added, and it is as full as
+ * before. Where other entries are dropped, and before a step back, the journal's bytes are put back. What
+ * putting back costs is timed alone and taken off.
+ */
+#define _POSIX_C_SOURCE 199309L /* clock_gettime */
+#include "cabinet.h"
+#include "plain.h"
+
+#include <stdio.h>
+#include <stdlib.h>
+#include <string.h>
+#include <time.h>
+
+#define STATION 0x99
+#define FITTED 0xFF
+#define RECEIVED 4096 /* bytes that the finder looks through */
+#define LINE 3840.0   /* bytes a second: 38,400 baud, ten bits a byte */
+#define TURNS 100     /* of each implementation; short, so that some are undisturbed */
+#define TURN 2e6      /* nanoseconds at least */
+#define CHECKED_CALLS 3
+#define POINTS_TAG 0x50
+#define COLUMNS_TAG 0x53
+
+/* ---- the two implementations ---- */
+
+struct calls {
+    uint8_t (*receive)(const uint8_t *, size_t, size_t *, size_t *, size_t *);
+    uint16_t (*answer)(const uint8_t *, size_t, uint8_t *, size_t, uint8_t *, size_t, uint8_t *, size_t,
+                       size_t *, const uint8_t *, size_t, uint8_t, uint8_t, uint8_t *, size_t, size_t *);
+    uint16_t (*step_back)(uint8_t *, size_t, uint8_t *, size_t, uint8_t *, size_t, size_t *);
+};
+
+static const struct calls archive = {cabinet_receive, cabinet_answer, cabinet_step_back};
+static const struct calls plain = {plain_receive, plain_answer, plain_step_back};
+
+/* ---- a trial ---- */
+
+/* All that a call may write. */
+struct board {
+    size_t used;
+    size_t reply_length;
+    size_t start, length, drop;
+    uint8_t points[CABINET_SLOT * CABINET_MOST_POINTS];
+    uint8_t columns[CABINET_COLUMNS];
+    uint8_t journal[CABINET_MOST_JOURNAL];
+    uint8_t reply[CABINET_REPLY];
+};
+
+enum kind { ANSWER, STEP_BACK, RECEIVE };
+
+static struct {
+    char name[64];
+    enum kind kind;
+    size_t held; /* N */
+    size_t journal_length;
+    uint8_t axes[CABINET_AXES];
+    uint8_t handed[RECEIVED]; /* the frame, or the received bytes */
+    size_t handed_length;
+    size_t last;    /* where the last entry begins */
+    size_t changed; /* from here on the journal is put back */
+} trial;
+
+static struct board built; /* as the trial begins */
+static struct board work;  /* what the calls are made on, both implementations' */
+
+static void fail(const char *why)
+{
+    fprintf(stderr, "benchmark: %s, N = %lu: %s\n", trial.name, (unsigned long)trial.held, why);
+    exit(1);
+}
+
+static unsigned make_call(const struct calls *calls)
+{
+    if (trial.kind == ANSWER)
+        return calls->answer(trial.handed, trial.handed_length, work.points, CABINET_SLOT * trial.held,
+                             work.columns, CABINET_COLUMNS, work.journal, trial.journal_length,
+                             &work.used, trial.axes, CABINET_AXES, FITTED, STATION,
+                             work.reply, CABINET_REPLY, &work.reply_length);
+    if (trial.kind == STEP_BACK)
+        return calls->step_back(work.points, CABINET_SLOT * trial.held, work.columns, CABINET_COLUMNS,
+                                work.journal, trial.journal_length, &work.used);
+    return calls->receive(trial.handed, trial.handed_length, &work.start, &work.length, &work.drop);
+}
+
+static void restore_work(void)
+{
+    work.used = built.used;
+    if (trial.changed < built.used)
+        memcpy(work.journal + trial.changed, built.journal + trial.changed, built.used - trial.changed);
+}
+
+/* Called through this, so that the compiler can't leave it out where it is timed alone. */
+static void (*volatile put_back)(void) = restore_work;
+
+/* ---- making a board ---- */
+
+/* The same bytes in every run. */
+static uint8_t drawn(void)
+{
+    static uint32_t state = 20261115;
+    state = state * 1664525u + 1013904223u;
+    return (uint8_t)(state >> 24);
+}
+
+static void draw(uint8_t *bytes, size_t count)
+{
+    size_t i;
+    for (i = 0; i < count; i++)
+        bytes[i] = drawn();
+}
+
+/* Every so manyth slot holds an eight-axis point, the others are 00. */
+static void draw_points(size_t every)
+{
+    size_t i;
+    memset(built.points, 0, sizeof built.points);
+    for (i = every - 1; i < trial.held; i += every) {
+        draw(built.points + CABINET_SLOT * i, CABINET_SLOT);
+        built.points[CABINET_SLOT * i] = FITTED;
+        built.points[CABINET_SLOT * i + 1] = 0;
+    }
+}
+
+/* Sensor and error code within their limits. */
+static void draw_axes(void)
+{
+    size_t at;
+    draw(trial.axes, CABINET_AXES);
+    for (at = 0; at < CABINET_AXES; at += 9) {
+        trial.axes[at + 1] &= 15;
+        trial.axes[at + 2] &= 15;
+    }
+}
+
+/* A board with N effective points and an empty journal. */
+static void begin(const char *name, size_t held)
+{
+    snprintf(trial.name, sizeof trial.name, "%s", name);
+    trial.kind = ANSWER;
+    trial.held = held;
+    trial.journal_length = held > 500 ? CABINET_MOST_JOURNAL : 32768;
+    trial.handed_length = 0;
+    trial.last = 0;
+    trial.changed = CABINET_MOST_JOURNAL; /* none of it */
+    memset(&built, 0, sizeof built);
+    memset(built.reply, 0xEE, CABINET_REPLY);
+    draw(built.columns, CABINET_COLUMNS);
+    draw_points(1);
+    draw_axes();
+}
+
+static void add_entry(uint8_t tag, unsigned start, size_t old)
+{
+    uint8_t *entry = built.journal + built.used;
+    entry[0] = tag;
+    entry[1] = (uint8_t)((old + 2) >> 8);
+    entry[2] = (uint8_t)(old + 2);
+    entry[3] = (uint8_t)(start >> 8);
+    entry[4] = (uint8_t)start;
+    draw(entry + 5, old);
+    trial.last = built.used;
+    built.used += 5 + old;
+}
+
+/* Entries of one length, as many as so many bytes hold. */
+static void fill_journal(size_t room, uint8_t tag, unsigned start, size_t old)
+{
+    while (built.used + 5 + old <= room)
+        add_entry(tag, start, old);
+}
+
+/* ---- making a frame ---- */
+
+static void say(const char *text)
+{
+    size_t length = strlen(text);
+    memcpy(trial.handed + trial.handed_length, text, length);
+    trial.handed_length += length;
+}
+
+static void say_number(unsigned long number, int digits)
+{
+    char text[16];
+    snprintf(text, sizeof text, "%0*lX", digits, number);
+    say(text);
+}
+
+static void say_drawn(size_t bytes)
+{
+    while (bytes-- > 0)
+        say_number(drawn(), 2);
+}
+
+static void say_point(unsigned pattern)
+{
+    say_number(pattern, 2);
+    say_drawn(6);
+    for (; pattern != 0; pattern >>= 1)
+        if (pattern & 1)
+            say_drawn(4);
+}
+
+static void say_points(unsigned long start, unsigned long count)
+{
+    unsigned long i;
+    say("!99244");
+    say_number(start, 3);
+    say_number(count, 3);
+    for (i = 0; i < count; i++)
+        say_point(FITTED);
+}
+
+/* SC, or a wrong one, CR and LF behind the frame that begins at a place. */
+static void close_frame(size_t from, unsigned off)
+{
+    unsigned sum = off;
+    size_t i;
+    for (i = from; i < trial.handed_length; i++)
+        sum += trial.handed[i];
+    say_number(sum & 255, 2);
+    say("\r\n");
+}
+
+/* ---- the check ---- */
+
+static void compare(const struct board *one, const struct board *other)
+{
+    if (one->used != other->used || one->reply_length != other->reply_length)
+        fail("another used length or reply's length");
+    if (one->start != other->start || one->length != other->length || one->drop != other->drop)
+        fail("another place was found");
+    if (memcmp(one->points, other->points, sizeof one->points) != 0)
+        fail("another points area");
+    if (memcmp(one->columns, other->columns, sizeof one->columns) != 0)
+        fail("another columns area");
+    if (memcmp(one->journal, other->journal, sizeof one->journal) != 0)
+        fail("another journal");
+    if (memcmp(one->reply, other->reply, sizeof one->reply) != 0)
+        fail("another reply area");
+}
+
+/* What so many calls leave. */
+static void make_calls(const struct calls *calls, size_t count, unsigned number, struct board *left)
+{
+    memcpy(&work, &built, sizeof work);
+    for (; count > 0; count--) {
+        put_back();
+        if (make_call(calls) != number)
+            fail("another number than expected");
+    }
+    memcpy(left, &work, sizeof work);
+}
+
+/* Both leave the same after the first call and after each that follows. */
+static void check(unsigned number, size_t reply_length)
+{
+    static struct board one, other;
+    size_t count;
+    for (count = 1; count <= CHECKED_CALLS; count++) {
+        make_calls(&archive, count, number, &one);
+        make_calls(&plain, count, number, &other);
+        compare(&one, &other);
+        if (one.reply_length != reply_length)
+            fail("another reply's length than expected");
+    }
+}
+
+/* ---- the clock ---- */
+
+static double now(void)
+{
+    struct timespec time;
+    clock_gettime(CLOCK_MONOTONIC, &time);
+    return 1e9 * (double)time.tv_sec + (double)time.tv_nsec;
+}
+
+/* Nanoseconds of a call with its putting back, the mean of so many. */
+static double time_calls(const struct calls *calls, size_t repeats, unsigned number)
+{
+    unsigned wrong = 0;
+    double since;
+    size_t i;
+    memcpy(&work, &built, sizeof work);
+    make_call(calls);
+    since = now();
+    for (i = 0; i < repeats; i++) {
+        put_back();
+        wrong |= make_call(calls) ^ number;
+    }
+    since = now() - since;
+    if (wrong != 0)
+        fail("another number while it was timed");
+    return since / (double)repeats;
+}
+
+/* Nanoseconds of putting back alone. */
+static double time_put_back(size_t repeats)
+{
+    double since = now();
+    size_t i;
+    for (i = 0; i < repeats; i++)
+        put_back();
+    return (now() - since) / (double)repeats;
+}
+
+static size_t enough_repeats(const struct calls *calls, unsigned number)
+{
+    size_t repeats = 1;
+    while (time_calls(calls, repeats, number) * (double)repeats < TURN)
+        repeats *= 2;
+    return repeats;
+}
+
+static double smaller(double one, double other)
+{
+    return one < other ? one : other;
+}
+
+/* ---- the table ---- */
+
+static const char dashes[] = "----------------------------------------------------------------";
+
+static void print_head(void)
+{
+    printf("| %-61s | %4s | %10s | %8s | %5s | %21s |\n", "Call", "N", "archive ns", "plain ns", "ratio",
+           "times the line's rate");
+    printf("|:%.61s-|-%.4s:|-%.10s:|-%.8s:|-%.5s:|-%.21s:|\n", dashes, dashes, dashes, dashes, dashes,
+           dashes);
+}
+
+/* `bytes` are those that the line carries for the call; a step back has none. */
+static void print_row(double archives, double plains, size_t bytes)
+{
+    char held[16] = "-", rate[24] = "-";
+    if (trial.kind != RECEIVE)
+        snprintf(held, sizeof held, "%lu", (unsigned long)trial.held);
+    if (bytes > 0)
+        snprintf(rate, sizeof rate, "%.0f", (double)bytes / LINE * 1e9 / archives);
+    printf("| %-61s | %4s | %10.0f | %8.0f | %5.2f | %21s |\n", trial.name, held, archives, plains,
+           archives / plains, rate);
+    fflush(stdout);
+}
+
+/* The call is checked, then timed: both in turns, the best turn of each. */
+static void run(unsigned number, size_t reply_length)
+{
+    size_t archive_repeats, plain_repeats;
+    double archives = 1e18, plains = 1e18, rest = 1e18;
+    int turn;
+    check(number, reply_length);
+    archive_repeats = enough_repeats(&archive, number);
+    plain_repeats = enough_repeats(&plain, number);
+    for (turn = 0; turn < TURNS; turn++) {
+        archives = smaller(archives, time_calls(&archive, archive_repeats, number));
+        plains = smaller(plains, time_calls(&plain, plain_repeats, number));
+        rest = smaller(rest, time_put_back(plain_repeats));
+    }
+    print_row(archives - rest, plains - rest,
+              trial.kind == STEP_BACK ? 0 : trial.handed_length + reply_length);
+}
+
+static void run_frame(unsigned number, size_t reply_length)
+{
+    close_frame(0, 0);
+    run(number, reply_length);
+}
+
+static void run_back(void)
+{
+    trial.kind = STEP_BACK;
+    trial.changed = trial.last;
+    run(0, 0);
+}
+
+/* ---- the trials: queries, with an empty journal ---- */
+
+static void test_call(size_t held)
+{
+    begin("200H", held);
+    say("!992000012345678");
+    run_frame(0, 20);
+}
+
+static void point_count(size_t held)
+{
+    begin("208H", held);
+    say("!99208");
+    run_frame(0, 13);
+}
+
+static void full_list(size_t held)
+{
+    begin("209H, 12 eight-axis points, the first ones", held);
+    say("!99209001");
+    say_number(held, 3);
+    run_frame(0, 985);
+}
+
+/* To find them all slots are looked at. */
+static void sparse_list(size_t held)
+{
+    begin("209H, 12 eight-axis points, far between", held);
+    draw_points(held / 12);
+    say("!99209001");
+    say_number(held, 3);
+    run_frame(0, 985);
+}
+
+static void column_query(size_t held)
+{
+    begin("210H, 255 columns", held);
+    say("!992100012CFF");
+    run_frame(0, 527);
+}
+
+static void axis_status(size_t held)
+{
+    begin("212H, 8 axes", held);
+    say("!99212FF");
+    run_frame(0, 140);
+}
+
+/* ---- writes into an empty journal: most of it becomes 00 each time ---- */
+
+static void write_point(size_t held)
+{
+    begin("244H, 1 eight-axis point", held);
+    say_points(7, 1);
+    run_frame(0, 16);
+}
+
+static void write_points(size_t held)
+{
+    begin("244H, 12 eight-axis points", held);
+    say_points(7, 12);
+    run_frame(0, 16);
+}
+
+static void clear_points(size_t held)
+{
+    begin("246H, 12 points", held);
+    say("!9924600700C");
+    run_frame(0, 10);
+}
+
+static void clear_all(size_t held)
+{
+    begin("246H, all points", held);
+    say("!99246001");
+    say_number(held, 3);
+    run_frame(0, 10);
+}
+
+static void write_columns(size_t held)
+{
+    begin("24EH, 255 columns", held);
+    say("!9924E0012CFF");
+    say_drawn(255);
+    run_frame(0, 10);
+}
+
+/* ---- refused frames ---- */
+
+static void wrong_sum(size_t held)
+{
+    begin("refused 7: 244H, 12 points, wrong SC", held);
+    say_points(7, 12);
+    close_frame(0, 1);
+    run(7, 0);
+}
+
+static void unknown_message(size_t held)
+{
+    begin("refused 101: unknown message", held);
+    say("!99299");
+    run_frame(101, 10);
+}
+
+static void not_held(size_t held)
+{
+    begin("refused 106: 209H beyond N", held);
+    say("!99209001");
+    say_number(held + 1, 3);
+    run_frame(106, 10);
+}
+
+static void wrong_pattern(size_t held)
+{
+    begin("refused 107: 244H, 12 points, the last one 00", held);
+    say_points(7, 11);
+    memcpy(trial.handed + 9, "00C", 3);
+    say_point(0);
+    run_frame(107, 10);
+}
+
+/* ---- calls with entries in the journal ---- */
+
+static void write_points_half_full(size_t held)
+{
+    begin("244H, 12 points, journal half full of such", held);
+    fill_journal(trial.journal_length / 2, POINTS_TAG, 7, 12 * CABINET_SLOT);
+    say_points(7, 12);
+    run_frame(0, 16);
+}
+
+static void write_column_half_full(size_t held)
+{
+    begin("24EH, 1 column, journal half full of 12-point entries", held);
+    fill_journal(trial.journal_length / 2, POINTS_TAG, 7, 12 * CABINET_SLOT);
+    say("!9924E0012C0137");
+    run_frame(0, 10);
+}
+
+static void write_points_full(size_t held)
+{
+    begin("244H, 12 points, journal full of such, 1 entry dropped", held);
+    fill_journal(trial.journal_length, POINTS_TAG, 7, 12 * CABINET_SLOT);
+    say_points(7, 12);
+    run_frame(0, 16);
+}
+
+/* The most entries that a journal can hold: each call looks at all of them. */
+static void write_column_full(size_t held)
+{
+    begin("24EH, 1 column, journal full of such, 1 entry dropped", held);
+    fill_journal(trial.journal_length, COLUMNS_TAG, 300, 1);
+    say("!9924E0012C0137");
+    run_frame(0, 10);
+}
+
+static void clear_full_of_columns(size_t held)
+{
+    begin("246H, 12 points, journal full of 1-column entries, 81 dropped", held);
+    fill_journal(trial.journal_length, COLUMNS_TAG, 300, 1);
+    trial.changed = 0;
+    say("!9924600700C");
+    run_frame(0, 10);
+}
+
+static void test_call_full_of_columns(size_t held)
+{
+    begin("200H, journal full of 1-column entries", held);
+    fill_journal(trial.journal_length, COLUMNS_TAG, 300, 1);
+    say("!992000012345678");
+    run_frame(0, 20);
+}
+
+/* ---- steps back ---- */
+
+static void back_to_empty(size_t held)
+{
+    begin("step back, 12 points, the only entry", held);
+    add_entry(POINTS_TAG, 7, 12 * CABINET_SLOT);
+    run_back();
+}
+
+static void back_from_full(size_t held)
+{
+    begin("step back, 12 points, journal full of such", held);
+    fill_journal(trial.journal_length, POINTS_TAG, 7, 12 * CABINET_SLOT);
+    run_back();
+}
+
+static void back_from_full_of_columns(size_t held)
+{
+    begin("step back, 1 column, journal full of such", held);
+    fill_journal(trial.journal_length, COLUMNS_TAG, 300, 1);
+    run_back();
+}
+
+/* ---- the finder ---- */
+
+/* Received bytes, up to a place without a '!'. */
+static void begin_received(const char *name, size_t junk)
+{
+    size_t i;
+    begin(name, 1);
+    trial.kind = RECEIVE;
+    draw(trial.handed, junk);
+    for (i = 0; i < junk; i++)
+        if (trial.handed[i] == '!')
+            trial.handed[i] = '?';
+    trial.handed_length = junk;
+}
+
+static void find_nothing(void)
+{
+    begin_received("finder, 4,096 bytes without '!'", RECEIVED);
+    run(CABINET_NOTHING, 0);
+}
+
+static void find_short(void)
+{
+    begin_received("finder, 4,076 bytes, then a frame of 20", RECEIVED - 20);
+    say("!992000012345678");
+    close_frame(RECEIVED - 20, 0);
+    run(CABINET_FRAME, 0);
+}
+
+static void find_longest(void)
+{
+    size_t from = RECEIVED - CABINET_LONGEST_FRAME;
+    begin_received("finder, 3,073 bytes, then a frame of 1,023", from);
+    say("!99244001001");
+    while (trial.handed_length < RECEIVED - 4)
+        say("0");
+    close_frame(from, 0);
+    run(CABINET_FRAME, 0);
+}
+
+static void (*const trials[])(size_t) = {
+    test_call, point_count, full_list, sparse_list, column_query, axis_status,
+    write_point, write_points, clear_points, clear_all, write_columns,
+    wrong_sum, unknown_message, not_held, wrong_pattern,
+    write_points_half_full, write_column_half_full, write_points_full, write_column_full,
+    clear_full_of_columns, test_call_full_of_columns,
+    back_to_empty, back_from_full, back_from_full_of_columns
+};
+
+int main(void)
+{
+    size_t i;
+    print_head();
+    for (i = 0; i < sizeof trials / sizeof trials[0]; i++) {
+        trials[i](500);
+        trials[i](1500);
+    }
+    find_nothing();
+    find_short();
+    find_longest();
+    return 0;
+}
