@@ -64,10 +64,12 @@ stored:
 	cmp target/vectors/stdin crates/vectors/stdin
 	cmp target/vectors/stdout crates/vectors/stdout
 
-# the archive: the bench listing in pieces of every length, then every vector
+# the archive: the bench listing in pieces of every length, the README's ten lines, then every vector
 host: tools archive
 	$(X86CC) -std=c99 -O2 -static $(STRICT) host/bench_listing.c $(ARCHIVE) -o target/host/bench_listing
 	$(CHECKED) target/host/bench_listing
+	$(X86CC) -std=c99 -O2 -static $(STRICT) host/first_host.c $(ARCHIVE) -o target/host/first_host
+	$(X86) target/host/first_host | cmp - <(printf '#9920000123456782B\r\n')
 	$(X86CC) -std=c99 -O2 -static $(STRICT) host/play_vectors.c $(ARCHIVE) -o target/host/play_vectors
 	$(X86) target/host/play_vectors < crates/vectors/stdin | cmp - crates/vectors/stdout
 	echo "vectors: $$(wc -l < crates/vectors/stdout) calls as the second program says"
