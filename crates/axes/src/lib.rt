@@ -1,9 +1,9 @@
 // The axis records that the motion board lends, read out of their bytes (document 01, "The areas").
 use link::Axes;
-use points::slots::four_at;
-use points::slots::two_at;
 use points::units::Position;
 use queries::AxisRecord;
+use slots::four_at;
+use slots::two_at;
 ghost use mathlib.Core.Path.{_≡_};
 ghost use Prim.Native.Nat.{_+_, _≤_};
 ghost use lib.ListN.{length, drop, replicate};

@@ -3,7 +3,7 @@ use areas::columns::set_columns;
 use areas::runs::clear_run;
 use journal::add;
 use points::point::Point;
-use points::slots::lay_points;
+use slots::lay_points;
 ghost use mathlib.Core.Path.{_≡_};
 ghost use mathlib.Core.Bool.{true};
 ghost use Prim.Native.Nat.{_+_, _*_, _≤_, _<_};

@@ -10,8 +10,8 @@ use Rattle.axes.proofs.record_at.Statement.{statement}
 use Rattle.axes.proofs.record_at.Tie as tie
 use Rattle.axes.proofs.record_at.Reads as reads
 use Rattle.axes.proofs.record_at.Lts as lts
-use Rattle.points.proofs.slots.four_at.Reads as four-at-reads
-use Rattle.points.proofs.slots.two_at.Reads as two-at-reads
+use Rattle.slots.proofs.four_at.Reads as four-at-reads
+use Rattle.slots.proofs.two_at.Reads as two-at-reads
 use Rattle.points.proofs.units.Position.of.Reads as of-reads
 
 -- src/lib.rt:30:18
