@@ -1,4 +1,5 @@
 // The axis records that the motion board lends, read out of their bytes (document 01, "The areas").
+use lent::no_records;
 use link::Axes;
 use points::units::Position;
 use queries::AxisRecord;
@@ -6,22 +7,8 @@ use slots::four_at;
 use slots::two_at;
 ghost use mathlib.Core.Path.{_≡_};
 ghost use Prim.Native.Nat.{_+_, _≤_};
-ghost use lib.ListN.{length, drop, replicate};
-ghost use Rattle.queries.specs.Replies.{zeroRecord};
+ghost use lib.ListN.{length, drop};
 ghost use Rattle.axes.specs.Axes.{recordIn, recordsIn, axesIn};
-
-fn no_records() -> [AxisRecord; 8]
-    ensures { λ r. ⌜ r ≡ replicate 8 zeroRecord ⌝ }
-{
-    let zero = AxisRecord {
-        status: 0,
-        sensor: 0,
-        error: 0,
-        encoder: 0,
-        position: Position(0),
-    };
-    [zero; 8]
-}
 
 fn record_at(bytes: &[u8], at: usize) -> AxisRecord
     requires { ⌜ at + 9 ≤ length (now bytes) ⌝ }

@@ -3,3 +3,4 @@ pub mod Tested
 pub mod Answering
 pub mod Carrying
 pub mod Ordered
+pub mod Lent

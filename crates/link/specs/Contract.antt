@@ -1,11 +1,13 @@
 -- The contract of each public call: one record of equations that determines every number and every lent byte.
 use Prim.Native.Nat.{ℕ}
 use mathlib.Core.Path.{_≡_}
-use mathlib.Core.Bool.{true}
+use mathlib.Core.Bool.{true, false, cond}
 use mathlib.Core.List.{List, []}
-use lib.ListN.{length}
+use lib.Dec.{eqb}
+use lib.ListN.{length, replicate}
 use Rattle.digits.specs.Laid.{laid}
 use Rattle.queries.specs.declared.AxisRecord.{AxisRecord}
+use Rattle.queries.specs.Replies.{zeroRecord}
 use Rattle.link.specs.declared.Answered.{Answered}
 use Rattle.link.specs.declared.Back.{Back}
 use Rattle.link.specs.declared.Axes.{Axes}
@@ -27,6 +29,10 @@ callOf frame points columns journal used axes settings reply =
       fitted = settings .fitted;
       reply = reply;
     }
+
+-- the axes "lent by the motion board as one run of records": the records as they stand, or "not eight axis records"
+abbrev pub lentAxes : List AxisRecord → Axes
+lentAxes records = cond (eqb (length records) 8) (record { eight = true; records = records }) (record { eight = false; records = replicate 8 zeroRecord })
 
 -- a frame and a station, without any area
 abbrev pub frameCall : List ℕ → ℕ → Call

@@ -4,9 +4,12 @@ use frames::checks::is_shaped;
 use frames::checks::passes_sum;
 use frames::replies::error_reply;
 use journal::is_whole;
+use lent::eight_of;
+use lent::no_records;
 use messages::Asked;
 use messages::content;
 use messages::judge;
+use points::point::Point;
 use queries::AxisRecord;
 use queries::reply_axes;
 use queries::reply_columns;
@@ -17,16 +20,17 @@ use writes::change_columns;
 use writes::clear_points;
 use writes::write_points;
 ghost use mathlib.Core.Path.{_≡_};
-ghost use mathlib.Core.Bool.{true};
+ghost use mathlib.Core.Bool.{true, false};
 ghost use Prim.Native.Nat.{_+_, _*_, _/_, _≤_, _<_};
-ghost use lib.ListN.{length};
+ghost use lib.ListN.{length, replicate};
 ghost use Rattle.digits.specs.Laid.{laid};
 ghost use Rattle.frames.specs.Frame.{errorOf};
 ghost use Rattle.messages.specs.Asked.{askedOf};
+ghost use Rattle.queries.specs.Replies.{zeroRecord};
 ghost use Rattle.link.specs.Call.{heldIn};
 ghost use Rattle.link.specs.Refusals.{pointsFit, journalFits, recordsFit, axesFit, silentOf, heardOf, backRefusalOf};
 ghost use Rattle.link.specs.Answer.{answerOf, backOf};
-ghost use Rattle.link.specs.Contract.{callOf, frameCall, backCall, Answers, StepsBack};
+ghost use Rattle.link.specs.Contract.{callOf, frameCall, backCall, lentAxes, Answers, StepsBack};
 
 // The board's settings.
 pub struct Settings {
@@ -63,10 +67,10 @@ fn fits_points(points: &[u8]) -> bool
     ensures { λ r. ⌜ r ≡ pointsFit (now (points .entry)) ⌝ }
 {
     let n = points.len();
-    if n % 40 != 0 {
+    if n % Point::SLOT != 0 {
         return false;
     }
-    if n < 40 {
+    if n < Point::SLOT {
         return false;
     }
     n <= 60000
@@ -145,7 +149,7 @@ fn silent(
     if columns.len() != 700 {
         return 3;
     }
-    if !fits_journal(journal, used, points.len() / 40) {
+    if !fits_journal(journal, used, points.len() / Point::SLOT) {
         return 4;
     }
     if !fits_axes(axes, fitted) {
@@ -199,7 +203,7 @@ fn carry_out(
     requires { ⌜ asked ≡ askedOf (heldIn (now points)) (settings .fitted) (now frame) ⌝ }
     ensures { λ r. ⌜ Answers (answerOf (callOf (now (frame .entry)) (now (points .entry)) (now (columns .entry)) (now (journal .entry)) (kept .used) axes settings (now (reply .entry)))) r (now (points .exit)) (now (columns .exit)) (now (journal .exit)) (now (reply .entry)) (now (reply .exit)) ⌝ }
 {
-    let n = points.len() / 40;
+    let n = points.len() / Point::SLOT;
     let used = kept.used;
     let station = settings.station;
     let fitted = settings.fitted;
@@ -281,7 +285,7 @@ pub fn answer(
             kept,
         };
     }
-    let asked = judge(frame, points.len() / 40, fitted);
+    let asked = judge(frame, points.len() / Point::SLOT, fitted);
     carry_out(
         asked,
         frame,
@@ -295,6 +299,52 @@ pub fn answer(
     )
 }
 
+fn eight_axes(records: [AxisRecord; 8]) -> Axes
+    ensures { λ r. ⌜ (r .eight ≡ true) × (r .records ≡ records) ⌝ }
+{
+    Axes {
+        eight: true,
+        records,
+    }
+}
+
+// Another count than eight: refusal 5, whatever the records are.
+fn no_axes() -> Axes
+    ensures { λ r. ⌜ (r .eight ≡ false) × (r .records ≡ replicate 8 zeroRecord) ⌝ }
+{
+    Axes {
+        eight: false,
+        records: no_records(),
+    }
+}
+
+// The lent run is read here alone, so that the rest takes the array by value.
+fn axes_of(records: &[AxisRecord]) -> Axes
+    ensures { λ r. ⌜ r ≡ lentAxes (now (records .entry)) ⌝ }
+{
+    if records.len() != 8 {
+        return no_axes();
+    }
+    eight_axes(eight_of(records))
+}
+
+// The same answer with the axis records as the motion board lends them: any count.
+pub fn answer_lent(
+    frame: &[u8],
+    points: &mut [u8],
+    columns: &mut [u8],
+    journal: &mut [u8],
+    kept: Kept,
+    records: &[AxisRecord],
+    settings: Settings,
+    reply: &mut [u8],
+) -> Answered
+    ensures { λ r. ⌜ Answers (answerOf (callOf (now (frame .entry)) (now (points .entry)) (now (columns .entry)) (now (journal .entry)) (kept .used) (lentAxes (now (records .entry))) settings (now (reply .entry)))) r (now (points .exit)) (now (columns .exit)) (now (journal .exit)) (now (reply .entry)) (now (reply .exit)) ⌝ }
+{
+    let axes = axes_of(records);
+    answer(frame, points, columns, journal, kept, axes, settings, reply)
+}
+
 // The local call from the service panel: the last entry's bytes go back. Any areas, any lengths.
 pub fn step_back(points: &mut [u8], columns: &mut [u8], journal: &mut [u8], kept: Kept) -> Back
     ensures { λ r. ⌜ StepsBack (backOf (backCall (now (points .entry)) (now (columns .entry)) (now (journal .entry)) (kept .used))) r (now (points .exit)) (now (columns .exit)) (now (journal .exit)) ⌝ }
@@ -304,7 +354,7 @@ pub fn step_back(points: &mut [u8], columns: &mut [u8], journal: &mut [u8], kept
     if number != 0 {
         return Back { number, kept };
     }
-    let n = points.len() / 40;
+    let n = points.len() / Point::SLOT;
     let left = journal::step_back(points, columns, journal, used, n);
     Back {
         number: 0,
@@ -322,7 +372,7 @@ fn back_refusal(points: &[u8], columns: &[u8], journal: &[u8], used: usize) -> u
     if columns.len() != 700 {
         return 3;
     }
-    if !fits_journal(journal, used, points.len() / 40) {
+    if !fits_journal(journal, used, points.len() / Point::SLOT) {
         return 4;
     }
     if used == 0 {

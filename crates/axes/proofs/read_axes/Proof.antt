@@ -4,7 +4,7 @@ use Rattle.axes.proofs.read_axes.Statement.{statement}
 use Rattle.axes.proofs.read_axes.Tie as tie
 use Rattle.axes.proofs.read_axes.Reads as reads
 use Rattle.axes.proofs.read_axes.Lts as lts
-use Rattle.axes.proofs.no_records.Reads as no-records-reads
+use Rattle.lent.proofs.no_records.Reads as no-records-reads
 use Rattle.axes.proofs.records_in.Reads as records-in-reads
 
 -- src/lib.rt:64:22

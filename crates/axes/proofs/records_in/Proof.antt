@@ -11,7 +11,7 @@ use Rattle.axes.proofs.records_in.Statement.{statement}
 use Rattle.axes.proofs.records_in.Tie as tie
 use Rattle.axes.proofs.records_in.Reads as reads
 use Rattle.axes.proofs.records_in.Lts as lts
-use Rattle.axes.proofs.no_records.Reads as no-records-reads
+use Rattle.lent.proofs.no_records.Reads as no-records-reads
 use Rattle.axes.proofs.record_at.Reads as record-at-reads
 
 abbrev Inv-loop : tie.InvT-loop
