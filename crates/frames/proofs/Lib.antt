@@ -1,4 +1,5 @@
 pub mod Turns
+pub mod Blocks
 pub mod Bools
 pub mod Finding
 pub mod Closing

@@ -1,6 +1,7 @@
 ghost use mathlib.Core.Path.{_≡_};
-ghost use Prim.Native.Nat.{_<_};
+ghost use Prim.Native.Nat.{_+_, _≤_, _<_};
 ghost use lib.ListN.{length, take, drop};
+ghost use lib.Dec.{ltb};
 ghost use Rattle.frames.specs.Find.{placeOf, pairFirst, pairOf, findIn, partOf};
 
 // What the received bytes hold, and how many of them are used up or dropped.
@@ -11,11 +12,43 @@ pub enum Found {
     TooLong { drop: usize },
 }
 
-// Where a byte first stands, or the length.
+// The bytes of a block: of 32, 64 and 128 the fastest where a frame follows.
+const BLOCK: usize = 64;
+
+// Whether a byte stands in a block: to the end in any case, so that the compiler looks at many bytes at once.
+fn has(block: &[u8], b: u8) -> bool
+    ensures { λ r. ⌜ r ≡ ltb (placeOf b (now (block .entry))) (length (now (block .entry))) ⌝ }
+{
+    let mut any = false;
+    let mut i = 0;
+    while i < block.len() {
+        if block[i] == b {
+            any = true;
+        }
+        i += 1;
+    }
+    any
+}
+
+// How many bytes are passed by whole blocks in which a byte doesn't stand: a block costs as much as four bytes one by one.
+fn skip(s: &[u8], b: u8) -> usize
+    ensures { λ r. ⌜ (r ≤ length (now (s .entry))) × (r + placeOf b (drop r (now (s .entry))) ≡ placeOf b (now (s .entry))) ⌝ }
+{
+    let mut passed = 0;
+    while s.len() - passed >= BLOCK {
+        if has(&s[passed..passed + BLOCK], b) {
+            return passed;
+        }
+        passed += BLOCK;
+    }
+    passed
+}
+
+// Where a byte first stands, or the length: byte by byte only from the block on in which it stands, or behind the last one.
 fn place(s: &[u8], b: u8) -> usize
     ensures { λ r. ⌜ r ≡ placeOf b (now (s .entry)) ⌝ }
 {
-    let mut i = 0;
+    let mut i = skip(s, b);
     while i < s.len() {
         if s[i] == b {
             return i;
@@ -39,13 +72,17 @@ fn pair_at(s: &[u8], i: usize) -> bool
     s[i + 1] == 0x0a
 }
 
-// Where CR LF first stands, or the length.
+// Where CR LF first stands, or the length: from CR to CR, since a CR is looked for by blocks.
 fn pair(s: &[u8]) -> usize
     ensures { λ r. ⌜ r ≡ pairOf (now (s .entry)) ⌝ }
 {
     let n = s.len();
     let mut at = 0;
     while at < n {
+        at += place(&s[at..], 0x0d);
+        if at >= n {
+            return n;
+        }
         if pair_at(s, at) {
             return at;
         }

@@ -9,13 +9,16 @@ use Rattle.frames.proofs.finder.place.Statement.{statement}
 use Rattle.frames.proofs.finder.place.Tie as tie
 
 abbrev Inv-loop : tie.InvT-loop
-Inv-loop s b i₀ i = (i ≤ length s) × (placeOf b s ≡ i + placeOf b (drop i s))
+Inv-loop s b i₀ i = (i ≤ length s) × (i + placeOf b (drop i s) ≡ placeOf b s)
 
 abbrev μ-loop : tie.MeasureT-loop
 μ-loop s b i₀ i = length s - i
 
+skip-requires : tie.Need-skip-requires Inv-loop μ-loop
+skip-requires c κs = search needs
+
 loop-holds : tie.Need-loop-holds Inv-loop μ-loop
-loop-holds c = search needs
+loop-holds c = c .skip .ensures
 
 shared-slice-read-if1 : tie.Need-shared-slice-read-if1 Inv-loop μ-loop
 shared-slice-read-if1 c = omega arith
@@ -23,7 +26,7 @@ shared-slice-read-if1 c = omega arith
 returns : tie.Need-returns Inv-loop μ-loop
 returns c =
     let g = c .before .before .before in
-    omega (arith, place-here (g .before .args .s .now) (g .loop .i) (omega arith) (g .before .args .b) (c .if1 .taken))
+    omega (arith, place-here (g .before .before .before .args .s .now) (g .loop .i) (omega arith) (g .before .before .before .args .b) (c .if1 .taken))
 
 add-i : tie.Need-add-i Inv-loop μ-loop
 add-i c = omega arith
@@ -34,12 +37,12 @@ loop-less c = omega arith
 loop-again : tie.Need-loop-again Inv-loop μ-loop
 loop-again c =
     let g = c .before .before .before in
-    omega (arith, place-next (g .before .args .s .now) (g .loop .i) (omega arith) (g .before .args .b) (c .if1 .left))
+    omega (arith, place-next (g .before .before .before .args .s .now) (g .loop .i) (omega arith) (g .before .before .before .args .b) (c .if1 .left))
 
 returns-2 : tie.Need-returns-2 Inv-loop μ-loop
 returns-2 c =
     let g = c .before in
-    omega (arith, place-done (g .before .args .s .now) (g .loop .i) (omega arith) (g .before .args .b))
+    omega (arith, place-done (g .before .before .before .args .s .now) (g .loop .i) (omega arith) (g .before .before .before .args .b))
 
 pub place-spec : {M : Type 1} → statement M
 place-spec =
@@ -47,6 +50,7 @@ place-spec =
     (tie.spec
     Inv-loop
     μ-loop
+    skip-requires
     loop-holds
     shared-slice-read-if1
     returns
