@@ -12,7 +12,7 @@ pub enum Found {
     TooLong { drop: usize },
 }
 
-// The bytes of a block: of 32, 64 and 128 the fastest where a frame follows.
+// The bytes of a block: four of the processor's vectors of 16, and one branch behind them.
 const BLOCK: usize = 64;
 
 // Whether a byte stands in a block: to the end in any case, so that the compiler looks at many bytes at once.
@@ -30,7 +30,7 @@ fn has(block: &[u8], b: u8) -> bool
     any
 }
 
-// How many bytes are passed by whole blocks in which a byte doesn't stand: a block costs as much as four bytes one by one.
+// How many bytes are passed by whole blocks in which a byte doesn't stand: a block costs about as much as four bytes one by one.
 fn skip(s: &[u8], b: u8) -> usize
     ensures { λ r. ⌜ (r ≤ length (now (s .entry))) × (r + placeOf b (drop r (now (s .entry))) ≡ placeOf b (now (s .entry))) ⌝ }
 {

@@ -40,7 +40,7 @@ pub fn reply_same(reply: &mut [u8], station: u8, frame: &[u8], many: usize) -> u
 
 // 208H.
 pub fn reply_count(reply: &mut [u8], station: u8, frame: &[u8], points: &[u8], n: usize) -> usize
-    requires { ⌜ (13 ≤ length (now reply)) × (10 ≤ length (now frame)) × (length (now points) ≡ 40 * n) ⌝ }
+    requires { ⌜ (13 ≤ length (now reply)) × (10 ≤ length (now frame)) × (length (now points) ≡ 40 * n) × (n ≤ 1500) ⌝ }
     ensures { λ r. ⌜ Replied (now (reply .entry)) (now (reply .exit)) r station (countText (now (frame .entry)) n (now (points .entry))) ⌝ }
 {
     put_run(reply, 3, &frame[3..6]);

@@ -142,12 +142,12 @@ pub fn point_at(area: &[u8], at: usize) -> Point
     }
 }
 
-// How many of so many slots have a pattern that is not 00.
-pub fn count_effective(area: &[u8], n: usize) -> usize
-    requires { ⌜ length (now area) ≡ 40 * n ⌝ }
+// How many of so many slots have a pattern that is not 00. In two bytes, so that the compiler counts many at once.
+pub fn count_effective(area: &[u8], n: usize) -> u16
+    requires { ⌜ (length (now area) ≡ 40 * n) × (n ≤ 1500) ⌝ }
     ensures { λ r. ⌜ r ≡ effectiveIn n (now (area .entry)) ⌝ }
 {
-    let mut count = 0;
+    let mut count: u16 = 0;
     let mut i = 0;
     while i < n {
         if area[i * Point::SLOT] != 0 {

@@ -105,7 +105,7 @@ enum-told-9 c = search needs
 reply-count-requires : tie.Need-reply-count-requires
 reply-count-requires c κs =
     let s = c .before .before .before .before .before .before .before .before .before .before .before in
-    (omega (arith, board s .reply-long), board s .frame-long, board s .points .whole-slots)
+    (omega (arith, board s .reply-long), board s .frame-long, board s .points .whole-slots, board s .points .most)
 
 accept-requires-2 : tie.Need-accept-requires-2
 accept-requires-2 c κs = search needs

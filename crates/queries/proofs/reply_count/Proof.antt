@@ -20,6 +20,9 @@ put-run-requires c κs = search needs
 count-effective-requires : tie.Need-count-effective-requires
 count-effective-requires c κs = search needs
 
+cast-put-number : tie.Need-cast-put-number
+cast-put-number c = search needs
+
 put-number-requires : tie.Need-put-number-requires
 put-number-requires c κs = search needs
 
@@ -46,6 +49,7 @@ reply-count-spec =
     part-put-run-end
     put-run-requires
     count-effective-requires
+    cast-put-number
     put-number-requires
     close-reply-requires
     same-length
