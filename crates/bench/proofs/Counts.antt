@@ -5,10 +5,10 @@ use mathlib.Core.List.{List}
 use native.Mathlib.Omega.{arith}
 use lib.ListN.{length, take}
 use lib.Seq.{length-take-le}
-use Rattle.frames.specs.declared.finder.Found.{Found}
-use Rattle.frames.specs.declared.finder.Found.the-variants.{Frame, Nothing, Wait, TooLong}
-use Rattle.frames.specs.Find.{findIn}
-use Rattle.frames.proofs.Finding.{Within, within}
+use Rattle.finder.specs.declared.Found.{Found}
+use Rattle.finder.specs.declared.Found.the-variants.{Frame, Nothing, Wait, TooLong}
+use Rattle.finder.specs.Find.{findIn}
+use Rattle.finder.proofs.Finding.{Within, within}
 use Rattle.bench.specs.Turns.{Less}
 use Rattle.bench.specs.declared.Turn.{Turn}
 use Rattle.bench.specs.declared.Turn.the-variants.{On}

@@ -1,7 +1,7 @@
 // The bench program (document 01): frames from standard input, replies to standard output.
 use axes::read_axes;
-use frames::finder::Found;
-use frames::finder::find;
+use finder::Found;
+use finder::find;
 use libc::STDIN_FILENO;
 use libc::STDOUT_FILENO;
 use link::Kept;

@@ -1,7 +1,7 @@
 -- The numbers of what is found.
 use mathlib.Core.Path.{_≡_, ap}
-use Rattle.frames.specs.declared.finder.Found.{Found}
-use Rattle.frames.specs.Find.{dropOf}
+use Rattle.finder.specs.declared.Found.{Found}
+use Rattle.finder.specs.Find.{dropOf}
 use Rattle.board.specs.Calls.{codeOf, startOf, lengthOf, Receives}
 
 pub received : {f g : Found} → f ≡ g → Receives g (codeOf f) (startOf f) (lengthOf f) (dropOf f)

@@ -1,9 +1,9 @@
 -- The C calls (include/cabinet.h): what stands behind each number that is handed over or back.
 use Prim.Native.Nat.{ℕ, _-_}
 use mathlib.Core.Path.{_≡_}
-use Rattle.frames.specs.declared.finder.Found.{Found}
-use Rattle.frames.specs.declared.finder.Found.the-variants.{Frame, Nothing, Wait, TooLong}
-use Rattle.frames.specs.Find.{dropOf}
+use Rattle.finder.specs.declared.Found.{Found}
+use Rattle.finder.specs.declared.Found.the-variants.{Frame, Nothing, Wait, TooLong}
+use Rattle.finder.specs.Find.{dropOf}
 use Rattle.link.specs.declared.Settings.{Settings}
 use Rattle.link.specs.declared.Answered.{Answered}
 use Rattle.link.specs.declared.Back.{Back}

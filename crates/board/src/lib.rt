@@ -1,12 +1,12 @@
 // The calls that the board's C host makes (include/cabinet.h).
 use axes::read_axes;
-use frames::finder::Found;
-use frames::finder::find;
+use finder::Found;
+use finder::find;
 use link::Kept;
 use link::Settings;
 use link::answer;
 use link::step_back;
-ghost use Rattle.frames.specs.Find.{findIn};
+ghost use Rattle.finder.specs.Find.{findIn};
 ghost use Rattle.axes.specs.Axes.{axesIn};
 ghost use Rattle.link.specs.Answer.{answerOf, backOf};
 ghost use Rattle.link.specs.Contract.{callOf, backCall, Answers, StepsBack};

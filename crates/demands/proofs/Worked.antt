@@ -2,7 +2,7 @@
 use mathlib.Core.Path.{refl}
 use Rattle.digits.specs.Digits.{digitOf, byteOf}
 use Rattle.frames.specs.Frame.{shaped, sumTrue, sumOff, sumPasses, stationPasses, replyOf}
-use Rattle.frames.specs.Find.{findIn}
+use Rattle.finder.specs.Find.{findIn}
 use Rattle.areas.specs.Kinds.{holds, runOf}
 use Rattle.journal.specs.Journal.{whole}
 use Rattle.points.specs.Axes.{axesFrom, axesOf}

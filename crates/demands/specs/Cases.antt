@@ -6,9 +6,9 @@ use mathlib.Core.List.{List, [], _∷_, _++_}
 use lib.IntN.{negsuc}
 use lib.ListN.{replicate}
 use Rattle.digits.specs.Text.{text}
-use Rattle.frames.specs.declared.finder.Found.the-variants.{Nothing}
+use Rattle.finder.specs.declared.Found.the-variants.{Nothing}
 use Rattle.frames.specs.Frame.{sumOf, scOf}
-use Rattle.frames.specs.Find.{findIn}
+use Rattle.finder.specs.Find.{findIn}
 use Rattle.points.specs.Units.{position}
 use Rattle.points.specs.Point.{positionOf}
 use Rattle.messages.specs.declared.Asked.the-variants.{ListPoints, NotHeld}

@@ -6,8 +6,8 @@ use mathlib.Core.List.{List, []}
 use lib.ListN.{length, replicate}
 use Rattle.digits.specs.Laid.{laid}
 use Rattle.digits.specs.Text.{text}
-use Rattle.frames.specs.declared.finder.Found.{Found}
-use Rattle.frames.specs.Find.{dropOf}
+use Rattle.finder.specs.declared.Found.{Found}
+use Rattle.finder.specs.Find.{dropOf}
 use Rattle.messages.specs.declared.Asked.the-variants.{TestCall}
 use Rattle.messages.specs.Asked.{askedOf}
 use Rattle.link.specs.Call.{Call}

@@ -2,8 +2,8 @@
 use Prim.Native.Nat.{ℕ}
 use mathlib.Core.Path.{_≡_}
 use mathlib.Core.List.{List}
-use Rattle.frames.specs.declared.finder.Found.{Found}
-use Rattle.frames.specs.Find.{findIn, partOf}
+use Rattle.finder.specs.declared.Found.{Found}
+use Rattle.finder.specs.Find.{findIn, partOf}
 use Rattle.link.specs.declared.Answered.{Answered}
 use Rattle.link.specs.declared.Back.{Back}
 use Rattle.link.specs.Call.{Outcome}

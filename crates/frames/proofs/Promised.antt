@@ -12,9 +12,7 @@ use borrow.Author.Tests.{eqb-true, eq-eqb, ne-eqb, ltb-true, ltb-false}
 use Rattle.digits.specs.Digits.{byteOf, digitsOf, allDigits, numberOf}
 use Rattle.digits.proofs.Inverse.{and-left, and-right, inverse}
 use Rattle.frames.specs.Frame.{stationIn, beforeSC, scIn, scOf, lowByte, saysNumber, sumTrue, sumOff, closed, replyOf, CR, LF}
-use Rattle.frames.specs.Find.{skipOf, windowOf, pairOf, findIn}
-use Rattle.frames.specs.Laws.{TrueSC, Reply, FullWindow}
-use Rattle.frames.proofs.Finding.{is-long}
+use Rattle.frames.specs.Laws.{TrueSC, Reply}
 use Rattle.frames.proofs.Closing.{length-reply}
 
 -- two bytes say a number below 256 just where they are its two digits
@@ -74,6 +72,3 @@ reply h st rest =
           ∙ drop-at (w ++ scOf w) (CR ∷ LF ∷ []) (length rest + 5) (simp length-append (omega arith));
       as-long = length-reply h st rest;
     }
-
-pub full-window : (received : List ℕ) → FullWindow received
-full-window s h l k = sym (is-long s (windowOf s) (skipOf s) (pairOf (windowOf s)) refl refl refl h (omega arith) l)

@@ -2,11 +2,10 @@
 use mathlib.Core.Path.{refl}
 use Rattle.digits.specs.Digits.{digitOf, byteOf}
 use Rattle.frames.specs.Frame.{shaped, sumTrue, sumOff, sumPasses, stationPasses, replyOf}
-use Rattle.frames.specs.Find.{findIn}
 use Rattle.frames.specs.Cases.{Cases}
 
 pub cases : Cases
-unfolding digitOf byteOf shaped sumTrue sumOff sumPasses stationPasses replyOf findIn
+unfolding digitOf byteOf shaped sumTrue sumOff sumPasses stationPasses replyOf
 cases =
     record {
       sum = refl;
@@ -20,10 +19,4 @@ cases =
       not-ours = refl;
       unknown = refl;
       lot-code = refl;
-      empty = refl;
-      found = refl;
-      wait = refl;
-      dropped = refl;
-      long = refl;
-      not-yet = refl;
     }

@@ -5,9 +5,7 @@ use mathlib.Core.Bool.{true, false}
 use mathlib.Core.List.{List, [], _∷_, _++_}
 use lib.ListN.{replicate}
 use Rattle.digits.specs.Text.{text}
-use Rattle.frames.specs.declared.finder.Found.the-variants.{Frame, Nothing, Wait, TooLong}
 use Rattle.frames.specs.Frame.{command, normal, sumOf, scOf, shaped, sumPasses, stationPasses, replyOf, errorOf}
-use Rattle.frames.specs.Find.{findIn}
 
 pub record Cases : Type 0 where
   -- Proved cases, 1; 000, section 3: "Total sum [..] = 254H", "The checksum is calculated as '54.'"
@@ -26,12 +24,3 @@ pub record Cases : Type 0 where
   pub unknown : errorOf 0x99 101 ≡ text "&991012A\r\n"
   -- Proved cases, 7: the reply to `!992100012C0490`
   pub lot-code : replyOf normal 0x99 (text "2100012C0430303437") ≡ text "#992100012C043030343729\r\n"
-  -- Proved cases, 11: empty input: nothing found
-  pub empty : findIn [] ≡ Nothing 0
-  -- the first '!', and the first pair behind it
-  pub found : findIn (text "ab!99299@@\r\n!99299@@\r\n") ≡ Frame 2 12
-  pub wait : findIn (text "ab!99299@@\r") ≡ Wait 2
-  pub dropped : findIn (text "ab\r\n") ≡ Nothing 4
-  -- 1,023 bytes without a pair: up to and with the '!' is dropped; with 1,022, wait
-  pub long : findIn (text "ab" ++ (command ∷ replicate 1022 0x30)) ≡ TooLong 3
-  pub not-yet : findIn (text "ab" ++ (command ∷ replicate 1021 0x30)) ≡ Wait 2

@@ -1,14 +1,12 @@
--- What is promised of sums, replies and the finder, over all bytes. The proofs are in proofs/Promised.antt.
-use Prim.Native.Nat.{ℕ, _+_, _≤_, _<_}
+-- What is promised of sums and replies, over all bytes. The proofs are in proofs/Promised.antt.
+use Prim.Native.Nat.{ℕ, _+_}
 use mathlib.Core.Path.{_≡_}
 use mathlib.Core.Logic.{_↔_}
 use mathlib.Core.Bool.{true, false}
 use mathlib.Core.List.{List, [], _∷_}
 use lib.ListN.{length, drop, getD}
 use Rattle.digits.specs.Digits.{digitsOf}
-use Rattle.frames.specs.declared.finder.Found.the-variants.{TooLong}
 use Rattle.frames.specs.Frame.{stationIn, beforeSC, scIn, scOf, sumTrue, sumOff, replyOf, CR, LF}
-use Rattle.frames.specs.Find.{skipOf, windowOf, pairOf, findIn}
 
 -- Frame: "SC is the low byte of the sum of all bytes before it, as two digits": an SC is true just where its two bytes are those digits
 abbrev pub TrueSC : List ℕ → Type 0
@@ -22,8 +20,3 @@ pub record Reply (header station : ℕ) (rest : List ℕ) : Type 0 where
   pub is-on : sumOff (replyOf header station rest) ≡ false
   pub ends : drop (length rest + 5) (replyOf header station rest) ≡ CR ∷ LF ∷ []
   pub as-long : length (replyOf header station rest) ≡ length rest + 7
-
--- Finding a frame: "if 1,023 bytes are there, answer "too long" and drop up to and with that '!'"
-abbrev pub FullWindow : List ℕ → Type 0
-FullWindow received =
-    skipOf received < length received → length (windowOf received) ≡ 1023 → 1023 ≤ pairOf (windowOf received) → findIn received ≡ TooLong (skipOf received + 1)

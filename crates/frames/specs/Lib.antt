@@ -1,4 +1,3 @@
 pub mod Frame
-pub mod Find
 pub mod Laws
 pub mod Cases

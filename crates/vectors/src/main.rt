@@ -1,7 +1,7 @@
 // Plays the second program's cases (second/README.md, "Vectors"), and writes a line for each call.
 use axes::read_axes;
-use frames::finder::Found;
-use frames::finder::find;
+use finder::Found;
+use finder::find;
 use io::print_decimal;
 use libc::STDIN_FILENO;
 use libc::STDOUT_FILENO;

@@ -11,7 +11,7 @@ use Rattle.bench.proofs.go_on.Lts as lts
 use Rattle.bench.proofs.pull.Reads as pull-reads
 use Rattle.bench.proofs.serve.Reads as serve-reads
 use Rattle.bench.proofs.shift.Reads as shift-reads
-use Rattle.frames.proofs.finder.find.Reads as find-reads
+use Rattle.finder.proofs.find.Reads as find-reads
 
 -- src/main.rt:107:22
 slice-reshare-prefix-find : tie.Need-slice-reshare-prefix-find

@@ -1,14 +1,14 @@
 use mathlib.Core.Path.{sym, _∙_}
 use lib.ListN.{length}
 use Prim.Native.Nat.{_≤_}
-use Rattle.frames.proofs.Finding.{Within, within}
+use Rattle.finder.proofs.Finding.{Within, within}
 use Rattle.board.proofs.Received.{received}
 use borrow.Author.Needs.{needs}
 use Rattle.board.proofs.cabinet_receive.Statement.{statement}
 use Rattle.board.proofs.cabinet_receive.Tie as tie
 use Rattle.board.proofs.cabinet_receive.Reads as reads
 use Rattle.board.proofs.cabinet_receive.Lts as lts
-use Rattle.frames.proofs.finder.find.Reads as find-reads
+use Rattle.finder.proofs.find.Reads as find-reads
 
 -- src/lib.rt:26:9
 find-requires : tie.Need-find-requires

@@ -1,13 +1,13 @@
 use mathlib.Core.Path.{sym, _∙_}
 use Prim.Native.Nat.{_≤_}
 use lib.ListN.{length}
-use Rattle.frames.proofs.Finding.{within}
+use Rattle.finder.proofs.Finding.{within}
 use borrow.Author.Needs.{needs}
 use Rattle.vectors.proofs.play_find.Statement.{statement}
 use Rattle.vectors.proofs.play_find.Tie as tie
 use Rattle.vectors.proofs.play_find.Reads as reads
 use Rattle.vectors.proofs.play_find.Lts as lts
-use Rattle.frames.proofs.finder.find.Reads as find-reads
+use Rattle.finder.proofs.find.Reads as find-reads
 use Rattle.vectors.proofs.say_found.Reads as say-found-reads
 
 -- src/main.rt:164:9

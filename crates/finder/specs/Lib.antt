@@ -1,0 +1,3 @@
+pub mod Find
+pub mod Laws
+pub mod Cases
