@@ -10,7 +10,7 @@ use Rattle.areas.specs.Bytes.{twoAt, fourAt}
 use Rattle.points.specs.Units.{position}
 use Rattle.queries.specs.declared.AxisRecord.{AxisRecord}
 use Rattle.queries.specs.Replies.{zeroRecord}
-use Rattle.link.specs.declared.Axes.{Axes}
+use Rattle.lent.specs.declared.Axes.{Axes}
 
 -- a record: status (1), sensor (1), error code (2), encoder (1), position (4, signed), high byte first
 unfoldable pub recordIn : List ℕ → AxisRecord

@@ -1,6 +1,6 @@
 // The axis records that the motion board lends, read out of their bytes (document 01, "The areas").
+use lent::Axes;
 use lent::no_records;
-use link::Axes;
 use points::units::Position;
 use queries::AxisRecord;
 use slots::four_at;

@@ -4,7 +4,7 @@ use mathlib.Core.Path.{_≡_}
 use Rattle.finder.specs.declared.Found.{Found}
 use Rattle.finder.specs.declared.Found.the-variants.{Frame, Nothing, Wait, TooLong}
 use Rattle.finder.specs.Find.{dropOf}
-use Rattle.link.specs.declared.Settings.{Settings}
+use Rattle.refusals.specs.declared.Settings.{Settings}
 use Rattle.link.specs.declared.Answered.{Answered}
 use Rattle.link.specs.declared.Back.{Back}
 

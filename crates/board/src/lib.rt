@@ -3,13 +3,14 @@ use axes::read_axes;
 use finder::Found;
 use finder::find;
 use link::Kept;
-use link::Settings;
 use link::answer;
 use link::step_back;
+use refusals::Settings;
 ghost use Rattle.finder.specs.Find.{findIn};
 ghost use Rattle.axes.specs.Axes.{axesIn};
 ghost use Rattle.link.specs.Answer.{answerOf, backOf};
-ghost use Rattle.link.specs.Contract.{callOf, backCall, Answers, StepsBack};
+ghost use Rattle.refusals.specs.Call.{callOf, backCall};
+ghost use Rattle.link.specs.Contract.{Answers, StepsBack};
 ghost use Rattle.board.specs.Calls.{Receives, settingsOf, answeredOf, backedOf};
 
 // 0 a frame, 1 nothing, 2 wait, 3 too long.

@@ -14,10 +14,10 @@ use Rattle.messages.specs.declared.Message.{Message}
 use Rattle.messages.specs.Layout.{messageOf, isUnknown}
 use Rattle.messages.specs.Asked.{askedOf, judged, orderOf, notDigits, wrongLength, wrongProgram, countZero, notHeld, wrongPattern}
 use Rattle.messages.proofs.Readiness.{Ready, ready}
-use Rattle.link.specs.Call.{Call, Outcome, heldIn}
-use Rattle.link.specs.Refusals.{pointsFit, journalFits, axesFit}
+use Rattle.refusals.specs.Call.{Call, Outcome, heldIn}
+use Rattle.refusals.specs.Refusals.{pointsFit, journalFits, axesFit}
 use Rattle.link.specs.Answer.{numberOf, done, answerOf}
-use Rattle.link.proofs.Rows.{three, five, seven, ownOf, saidOf, refusal-rows}
+use Rattle.refusals.proofs.Rows.{three, five, seven, ownOf, saidOf, refusal-rows}
 use Rattle.link.proofs.Answering.{Passed, spoken, accepted-answer}
 use Rattle.link.proofs.Carrying.{fine}
 use Rattle.demands.specs.Survive.{Accepted, commandOf, nextCall, Says}

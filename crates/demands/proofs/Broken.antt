@@ -14,7 +14,7 @@ use Rattle.points.specs.Axes.{axesFrom, axesOf}
 use Rattle.points.specs.Point.{positionsOf, pointOf, lengthOf, fillsOf, positionBytes, slotOf, slotsOf, effectiveIn}
 use Rattle.messages.specs.Layout.{messageNumbered, messageOf, patternFits, patternsFit}
 use Rattle.messages.specs.Asked.{askedOf, judged}
-use Rattle.link.specs.Refusals.{pointsFit, journalFits, recordsFit, axesFit, table, refusalOf, backRefusalOf}
+use Rattle.refusals.specs.Refusals.{pointsFit, journalFits, recordsFit, axesFit, table, refusalOf, backRefusalOf}
 use Rattle.link.specs.Answer.{answerOf, backOf}
 use Rattle.demands.specs.History.{Conduct, Event, frame, stepBack, after, acceptedWrite, alone, fresh, entries, EveryHistory}
 use Rattle.demands.specs.Broken.{lotCode, pointOne, clearOne, count, unknown, small, Worked, newBytes, clears, refusalWrites, forgets, takesNothing, Broken}

@@ -19,7 +19,7 @@ use Rattle.messages.specs.Layout.{startOf, countOf, programOf}
 use Rattle.messages.specs.Asked.{orderOf}
 use Rattle.messages.proofs.Readiness.{Ready}
 use Rattle.queries.specs.Replies.{columnsText}
-use Rattle.link.specs.Call.{Call, heldIn}
+use Rattle.refusals.specs.Call.{Call, heldIn}
 use Rattle.link.specs.Answer.{answerOf}
 use Rattle.link.proofs.Carrying.{Fine, fine}
 use Rattle.demands.specs.Survive.{Accepted, CodesSurvive}

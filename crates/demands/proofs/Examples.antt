@@ -6,7 +6,7 @@ use Rattle.areas.specs.Kinds.{holds}
 use Rattle.journal.specs.Journal.{whole}
 use Rattle.messages.specs.Layout.{messageNumbered, messageOf}
 use Rattle.messages.specs.Asked.{askedOf, judged}
-use Rattle.link.specs.Refusals.{pointsFit, journalFits, recordsFit, axesFit, table, refusalOf, silentOf, backRefusalOf}
+use Rattle.refusals.specs.Refusals.{pointsFit, journalFits, recordsFit, axesFit, table, refusalOf, silentOf, backRefusalOf}
 use Rattle.link.specs.Answer.{answerOf, backOf}
 use Rattle.demands.specs.Examples.{Examples}
 

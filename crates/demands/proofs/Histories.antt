@@ -18,9 +18,9 @@ use Rattle.journal.proofs.Again.{good-others}
 use Rattle.journal.proofs.Back.{split-last}
 use Rattle.journal.proofs.Promised.{newest, last-added, others-added}
 use Rattle.messages.specs.Asked.{askedOf}
-use Rattle.link.specs.Call.{Call, Outcome, heldIn}
+use Rattle.refusals.specs.Call.{Call, Outcome, heldIn}
 use Rattle.link.specs.Answer.{entriesOf, answerOf, back, backOf}
-use Rattle.link.proofs.Tested.{accepted-back}
+use Rattle.link.proofs.Answering.{accepted-back}
 use Rattle.demands.specs.Refused.{Left, writes}
 use Rattle.demands.specs.History.{Conduct, ours, Areas, fresh, Sent, Event, frame, stepBack, callOn, backOn, left, after, acceptedWrite, butLast, standing, Past, past, alone, allAccepted, entries, made, Holds, EveryHistory}
 use Rattle.demands.proofs.Refused.{one-number, changes-nothing, query-changes-nothing}

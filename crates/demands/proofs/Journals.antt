@@ -12,8 +12,8 @@ use Rattle.journal.proofs.Codec.{Bytes, bytes-take, length-encode}
 use Rattle.journal.proofs.Adding.{encodes-snoc}
 use Rattle.journal.proofs.Again.{good-added, again}
 use Rattle.journal.proofs.Promised.{encoding, newest}
-use Rattle.link.specs.Refusals.{journalFits}
-use Rattle.link.proofs.Tested.{Journal}
+use Rattle.refusals.specs.Refusals.{journalFits}
+use Rattle.refusals.proofs.Tested.{Journal}
 
 -- with an entry that fits the area, the entries fit it
 pub added-fits : (size : ℕ) (es : List Entry) (e : Entry) → length (encode e) ≤ size → length (encodes (added size es e)) ≤ size

@@ -5,18 +5,21 @@ use mathlib.Core.Bool.{Bool, true, false, cond, not}
 use mathlib.Core.List.{List, []}
 use native.Mathlib.Omega.{arith}
 use lib.Dec.{eqb, leb, ltb}
-use lib.ListN.{length}
+use lib.ListN.{length, drop}
+use lib.Seq.{drop-at}
 use borrow.Author.Tests.{eq-eqb, ne-eqb, le-leb, lt-leb, eqb-true, eqb-false}
+use Rattle.digits.specs.Laid.{laid}
+use Rattle.digits.proofs.Laid.{laid-nothing, laid-front}
 use Rattle.frames.specs.Frame.{contentIn, errorOf, shaped, sumPasses, stationPasses}
 use Rattle.frames.proofs.Closing.{length-reply}
 use Rattle.messages.specs.declared.Asked.{Asked}
 use Rattle.messages.specs.declared.Asked.the-variants.{UnknownMessage, NotDigits, WrongLength, WrongProgram, CountZero, NotHeld, WrongPattern, TestCall, CountPoints, ListPoints, ReadColumns, AxisStatus, WritePoints, ClearPoints, ChangeColumns}
 use Rattle.messages.specs.Layout.{messageOf, isUnknown}
 use Rattle.messages.specs.Asked.{askedOf, notDigits, wrongLength, wrongProgram, countZero, notHeld, wrongPattern}
-use Rattle.link.specs.Call.{Call, Outcome, heldIn}
-use Rattle.link.specs.Refusals.{pointsFit, journalFits, axesFit, refusalOf, silentOf, backRefusalOf}
+use Rattle.refusals.specs.Call.{Call, Outcome, heldIn}
+use Rattle.refusals.specs.Refusals.{pointsFit, journalFits, axesFit, refusalOf, silentOf, backRefusalOf}
 use Rattle.link.specs.Answer.{numberOf, unchanged, refused, done, answerOf, back, backOf}
-use Rattle.link.proofs.Rows.{three, five, seven, ownOf, saidOf, refusal-rows}
+use Rattle.refusals.proofs.Rows.{three, five, seven, ownOf, saidOf, refusal-rows}
 use Rattle.link.proofs.Answering.{passed, spoken}
 use Rattle.demands.specs.Refused.{Left, OneNumber, ChangesNothing, OneReply, SameError, ErrorsAgree, writes, QueryChangesNothing}
 
@@ -132,11 +135,18 @@ back-text : (c : Call) → backOf c .text ≡ []
 unfolding backOf
 back-text c = either (λ (o : Outcome). o .text ≡ []) (eqb (backRefusalOf c) 0) (λ e. refl) (λ e. refl)
 
+-- what stands beyond ten bytes laid at the front
+beyond : (area text : List ℕ) → length text ≡ 10 → drop 10 (laid area 0 text) ≡ drop 10 area
+beyond area text l =
+    ap (drop 10) (laid-front area text) ∙ drop-at text (drop (length text) area) 10 l ∙ ap (λ (n : ℕ). drop n area) l
+
 pub one-reply : OneReply
 one-reply =
     record {
       none = text-none;
       ten = λ c h. (text-ten c h, ap length (text-ten c h) ∙ length-reply _ _ _);
+      area-left = λ c n h. ap (laid (c .reply) 0) (text-none c n h) ∙ laid-nothing (c .reply) 0;
+      beyond-ten = λ c h. beyond (c .reply) (answerOf c .text) (ap length (text-ten c h) ∙ length-reply _ _ _);
       no-other = λ c h. subst (λ (k : ℕ). 101 ≤ k) (sym (frame-number c)) (range c (subst (λ (k : ℕ). 9 ≤ k) (frame-number c) h));
       back = back-text;
     }

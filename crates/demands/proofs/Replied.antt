@@ -10,8 +10,8 @@ use Rattle.frames.proofs.Promised.{reply}
 use Rattle.messages.specs.declared.Asked.{Asked}
 use Rattle.messages.specs.declared.Asked.the-variants.{UnknownMessage, NotDigits, WrongLength, WrongProgram, CountZero, NotHeld, WrongPattern, TestCall, CountPoints, ListPoints, ReadColumns, AxisStatus, WritePoints, ClearPoints, ChangeColumns}
 use Rattle.messages.specs.Asked.{askedOf}
-use Rattle.link.specs.Call.{Call, Outcome, heldIn}
-use Rattle.link.specs.Refusals.{refusalOf}
+use Rattle.refusals.specs.Call.{Call, Outcome, heldIn}
+use Rattle.refusals.specs.Refusals.{refusalOf}
 use Rattle.link.specs.Answer.{refused, done, answerOf}
 use Rattle.demands.specs.Refused.{OneNumber}
 use Rattle.demands.specs.Replied.{headerOf, Framed, EveryReply, TestCallBack}

@@ -12,10 +12,10 @@ use Rattle.journal.specs.Laws.{AllGood}
 use Rattle.journal.specs.Laws as journal
 use Rattle.journal.proofs.Again.{Again, again}
 use Rattle.messages.specs.Asked.{askedOf}
-use Rattle.link.specs.Call.{Call, Outcome, heldIn}
-use Rattle.link.specs.Refusals.{pointsFit, journalFits, axesFit, refusalOf, backRefusalOf}
+use Rattle.refusals.specs.Call.{Call, Outcome, heldIn}
+use Rattle.refusals.specs.Refusals.{pointsFit, journalFits, axesFit, refusalOf, backRefusalOf}
 use Rattle.link.specs.Answer.{answerOf, backOf}
-use Rattle.link.proofs.Rows.{refusal-rows, back-rows}
+use Rattle.refusals.proofs.Rows.{refusal-rows, back-rows}
 use Rattle.demands.specs.Refused.{writes}
 use Rattle.demands.specs.History.{ours, Areas, Sent, callOn, backOn, acceptedWrite, entries}
 use Rattle.demands.proofs.Refused.{one-number}

@@ -14,7 +14,7 @@ use Rattle.points.specs.Point.{lengthOf, fillsOf}
 use Rattle.messages.specs.declared.Message.the-variants.{Write, Clear, Change}
 use Rattle.messages.specs.Layout.{messageNumbered, messageOf, patternFits, patternsFit}
 use Rattle.messages.specs.Asked.{askedOf, judged}
-use Rattle.link.specs.Refusals.{pointsFit, journalFits, recordsFit, axesFit, table, refusalOf}
+use Rattle.refusals.specs.Refusals.{pointsFit, journalFits, recordsFit, axesFit, table, refusalOf}
 use Rattle.link.specs.Answer.{answerOf}
 use Rattle.demands.specs.Survive.{Accepted, nextCall, codeCall, pointCall, clearCall, sent, fitting, Examples}
 use Rattle.demands.proofs.Survived.{every-digit-survives}

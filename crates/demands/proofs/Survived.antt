@@ -22,7 +22,7 @@ use Rattle.messages.specs.Asked.{orderOf}
 use Rattle.messages.proofs.Readiness.{Ready}
 use Rattle.queries.specs.Replies.{listed, joined, listText}
 use Rattle.writes.proofs.Held.{within}
-use Rattle.link.specs.Call.{Call, heldIn}
+use Rattle.refusals.specs.Call.{Call, heldIn}
 use Rattle.link.specs.Answer.{answerOf, wrotePoints}
 use Rattle.link.proofs.Answering.{Passed}
 use Rattle.link.proofs.Carrying.{fine}

@@ -17,8 +17,8 @@ use Rattle.points.specs.Point.{positionsOf, pointOf, lengthOf, fillsOf, positio
 use Rattle.messages.specs.Layout.{messageNumbered, messageOf, patternFits, patternsFit}
 use Rattle.messages.specs.Asked.{askedOf, judged}
 use Rattle.queries.specs.Replies.{zeroRecord}
-use Rattle.link.specs.Call.{Call}
-use Rattle.link.specs.Refusals.{pointsFit, journalFits, recordsFit, axesFit, table, refusalOf}
+use Rattle.refusals.specs.Call.{Call}
+use Rattle.refusals.specs.Refusals.{pointsFit, journalFits, recordsFit, axesFit, table, refusalOf}
 use Rattle.link.specs.Answer.{answerOf}
 use Rattle.demands.specs.Cases.{bench, fresh}
 use Rattle.demands.specs.Useless.{Board, Meets, repliedBy, Useless}
@@ -79,6 +79,8 @@ replied board m c =
 pub useless : Useless
 useless =
     record {
+      can-be-met = λ c.
+          record { number-is = refl; length-is = refl; used-is = refl; points-are = refl; columns-are = refl; journal-is = refl; reply-is = refl };
       refuses-all = λ board n m. n test (m test .number-is ∙ unfolds-test .0);
       same-reply = λ board same m.
           let e : text "#9920000123456782B\r\n" ≡ text "&991012A\r\n" = sym (unfolds-test .1) ∙ sym (replied board m test) ∙ same test unknown ∙ replied board m unknown ∙ unfolds-unknown in

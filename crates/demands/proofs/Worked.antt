@@ -9,7 +9,7 @@ use Rattle.points.specs.Axes.{axesFrom, axesOf}
 use Rattle.points.specs.Point.{lengthOf, fillsOf}
 use Rattle.messages.specs.Layout.{messageNumbered, messageOf, patternFits, patternsFit}
 use Rattle.messages.specs.Asked.{askedOf, judged}
-use Rattle.link.specs.Refusals.{pointsFit, journalFits, recordsFit, axesFit, table, refusalOf}
+use Rattle.refusals.specs.Refusals.{pointsFit, journalFits, recordsFit, axesFit, table, refusalOf}
 use Rattle.link.specs.Answer.{answerOf}
 use Rattle.demands.specs.Cases.{ProvedCases}
 

@@ -16,8 +16,8 @@ use Rattle.journal.specs.Laws.{Good}
 use Rattle.journal.proofs.Codec.{Bytes}
 use Rattle.writes.specs.Writes.{entryOf}
 use Rattle.writes.proofs.Held.{within, room, run-length, good, kind-points, kind-columns}
-use Rattle.link.specs.Call.{Call, heldIn}
-use Rattle.link.specs.Refusals.{journalFits}
+use Rattle.refusals.specs.Call.{Call, heldIn}
+use Rattle.refusals.specs.Refusals.{journalFits}
 use Rattle.link.specs.Answer.{entriesAfter, wrotePoints, wroteColumns}
 use Rattle.link.proofs.Carrying.{Fine}
 use Rattle.demands.specs.Survive.{Outside}

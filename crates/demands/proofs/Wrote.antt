@@ -27,8 +27,8 @@ use Rattle.messages.specs.declared.Asked.{Asked}
 use Rattle.messages.specs.declared.Asked.the-variants.{UnknownMessage, NotDigits, WrongLength, WrongProgram, CountZero, NotHeld, WrongPattern, TestCall, CountPoints, ListPoints, ReadColumns, AxisStatus, WritePoints, ClearPoints, ChangeColumns}
 use Rattle.messages.specs.Asked.{askedOf}
 use Rattle.messages.proofs.Readiness.{Ready}
-use Rattle.link.specs.Call.{Call, Outcome, heldIn}
-use Rattle.link.specs.Refusals.{refusalOf}
+use Rattle.refusals.specs.Call.{Call, Outcome, heldIn}
+use Rattle.refusals.specs.Refusals.{refusalOf}
 use Rattle.link.specs.Answer.{entriesOf, entriesAfter, wrotePoints, wroteColumns, done, answerOf}
 use Rattle.link.proofs.Carrying.{told}
 use Rattle.demands.specs.Refused.{writes}

@@ -8,7 +8,7 @@ use lib.Dec.{eqb}
 use lib.ListN.{length, take, replicate}
 use Rattle.digits.specs.Text.{text}
 use Rattle.queries.specs.Replies.{zeroRecord}
-use Rattle.link.specs.Call.{Call, Outcome}
+use Rattle.refusals.specs.Call.{Call, Outcome}
 use Rattle.link.specs.Answer.{answerOf, backOf}
 use Rattle.demands.specs.History.{Conduct, ours, Areas, fresh, Sent, Event, frame, stepBack, backOn, left, Past, past, entries, EveryHistory}
 

@@ -14,7 +14,7 @@ use Rattle.points.specs.Point.{positionOf}
 use Rattle.messages.specs.declared.Asked.the-variants.{ListPoints, NotHeld}
 use Rattle.messages.specs.Asked.{askedOf}
 use Rattle.queries.specs.Replies.{zeroRecord}
-use Rattle.link.specs.Call.{Call}
+use Rattle.refusals.specs.Call.{Call}
 use Rattle.link.specs.Answer.{answerOf}
 
 -- the bench: station 99H, N = 500, all eight axes, zero records, journal 32,768, fresh but for the columns

@@ -10,7 +10,7 @@ use Rattle.finder.specs.declared.Found.{Found}
 use Rattle.finder.specs.Find.{dropOf}
 use Rattle.messages.specs.declared.Asked.the-variants.{TestCall}
 use Rattle.messages.specs.Asked.{askedOf}
-use Rattle.link.specs.Call.{Call}
+use Rattle.refusals.specs.Call.{Call}
 use Rattle.link.specs.Answer.{answerOf, backOf}
 use Rattle.link.specs.Contract.{Answers, StepsBack}
 use Rattle.board.specs.Calls.{codeOf, startOf, lengthOf, Receives, answeredOf, backedOf}

@@ -10,9 +10,9 @@ use lib.ListN.{length, take, replicate}
 use Rattle.journal.specs.Journal.{Entry, encodes, entriesIn, added, areaOf, lastEntry, others}
 use Rattle.messages.specs.Asked.{askedOf}
 use Rattle.queries.specs.declared.AxisRecord.{AxisRecord}
-use Rattle.link.specs.Call.{Call, Outcome, heldIn}
+use Rattle.refusals.specs.Call.{Call, Outcome, heldIn}
 use Rattle.link.specs.Answer.{answerOf, backOf}
-use Rattle.link.specs.Contract.{backCall}
+use Rattle.refusals.specs.Call.{backCall}
 use Rattle.demands.specs.Refused.{writes}
 
 -- what a board does: the outcome of a frame, and of a step back

@@ -3,13 +3,14 @@ use Prim.Native.Nat.{ℕ, _≤_, _<_}
 use mathlib.Core.Path.{_≡_}
 use mathlib.Core.Bool.{Bool, true, false}
 use mathlib.Core.List.{List, []}
-use lib.ListN.{length}
+use lib.ListN.{length, drop}
+use Rattle.digits.specs.Laid.{laid}
 use Rattle.frames.specs.Frame.{errorOf}
 use Rattle.messages.specs.declared.Asked.{Asked}
 use Rattle.messages.specs.declared.Asked.the-variants.{UnknownMessage, NotDigits, WrongLength, WrongProgram, CountZero, NotHeld, WrongPattern, TestCall, CountPoints, ListPoints, ReadColumns, AxisStatus, WritePoints, ClearPoints, ChangeColumns}
 use Rattle.messages.specs.Asked.{askedOf}
-use Rattle.link.specs.Call.{Call, Outcome, heldIn}
-use Rattle.link.specs.Refusals.{refusalOf, silentOf, backRefusalOf}
+use Rattle.refusals.specs.Call.{Call, Outcome, heldIn}
+use Rattle.refusals.specs.Refusals.{refusalOf, silentOf, backRefusalOf}
 use Rattle.link.specs.Answer.{answerOf, backOf}
 
 -- all that was lent is left as it was, but the reply
@@ -33,6 +34,9 @@ pub record ChangesNothing : Type 0 where
 pub record OneReply : Type 0 where
   pub none : (c : Call) → (answerOf c .number ≡ 0 → ⊥) → answerOf c .number < 100 → answerOf c .text ≡ []
   pub ten : (c : Call) → 101 ≤ answerOf c .number → (answerOf c .text ≡ errorOf (c .station) (answerOf c .number)) × (length (answerOf c .text) ≡ 10)
+  -- so the reply area is left as it was, or beyond its first ten bytes
+  pub area-left : (c : Call) → (answerOf c .number ≡ 0 → ⊥) → answerOf c .number < 100 → laid (c .reply) 0 (answerOf c .text) ≡ c .reply
+  pub beyond-ten : (c : Call) → 101 ≤ answerOf c .number → drop 10 (laid (c .reply) 0 (answerOf c .text)) ≡ drop 10 (c .reply)
   pub no-other : (c : Call) → 9 ≤ answerOf c .number → 101 ≤ answerOf c .number
   pub back : (c : Call) → (backOf c .text ≡ [])
 

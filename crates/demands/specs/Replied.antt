@@ -8,7 +8,7 @@ use Rattle.frames.specs.Frame.{normal, error, messageIn, contentIn, replyOf}
 use Rattle.frames.specs.Laws.{Reply}
 use Rattle.messages.specs.declared.Asked.the-variants.{TestCall}
 use Rattle.messages.specs.Asked.{askedOf}
-use Rattle.link.specs.Call.{Call, heldIn}
+use Rattle.refusals.specs.Call.{Call, heldIn}
 use Rattle.link.specs.Answer.{answerOf}
 
 -- "Replies start '#', or '&' for an error": '#' where the frame was accepted

@@ -6,7 +6,7 @@ use Rattle.finder.specs.declared.Found.{Found}
 use Rattle.finder.specs.Find.{findIn, partOf}
 use Rattle.link.specs.declared.Answered.{Answered}
 use Rattle.link.specs.declared.Back.{Back}
-use Rattle.link.specs.Call.{Outcome}
+use Rattle.refusals.specs.Call.{Outcome}
 use Rattle.link.specs.Contract.{Answers, StepsBack}
 use Rattle.board.specs.Calls.{Receives, answeredOf, backedOf}
 

@@ -16,7 +16,7 @@ use Rattle.messages.specs.declared.Message.{Message}
 use Rattle.messages.specs.declared.Message.the-variants.{Write, Clear, Change}
 use Rattle.messages.specs.Layout.{messageOf, startOf, countOf}
 use Rattle.queries.specs.Replies.{joined}
-use Rattle.link.specs.Call.{Call, heldIn}
+use Rattle.refusals.specs.Call.{Call, heldIn}
 use Rattle.link.specs.Answer.{answerOf}
 use Rattle.demands.specs.Cases.{bench, fresh}
 

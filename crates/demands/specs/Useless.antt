@@ -2,9 +2,10 @@
 use Prim.Native.Nat.{ℕ}
 use mathlib.Core.Path.{_≡_}
 use mathlib.Core.List.{List}
-use lib.ListN.{take, drop}
+use lib.ListN.{length, take, drop}
+use Rattle.digits.specs.Laid.{laid}
 use Rattle.link.specs.declared.Answered.{Answered}
-use Rattle.link.specs.Call.{Call}
+use Rattle.refusals.specs.Call.{Call}
 use Rattle.link.specs.Answer.{answerOf}
 use Rattle.link.specs.Contract.{Answers}
 
@@ -28,7 +29,20 @@ Meets board =
 abbrev pub repliedBy : Board → Call → List ℕ
 repliedBy board c = take (board c .answered .length) (board c .reply)
 
+-- a board that does what is asked
+abbrev pub honest : Board
+honest c =
+    record {
+      answered = record { number = answerOf c .number; length = length (answerOf c .text); kept = record { used = answerOf c .used } };
+      points = answerOf c .points;
+      columns = answerOf c .columns;
+      journal = answerOf c .journal;
+      reply = laid (c .reply) 0 (answerOf c .text);
+    }
+
 pub record Useless : Type 0 where
+  -- the contract can be met, so it isn't for an empty reason that these do not
+  pub can-be-met : Meets honest
   -- "one that refuses all frames"
   pub refuses-all : (board : Board) → ((c : Call) → board c .answered .number ≡ 0 → ⊥) → Meets board → ⊥
   -- "one with a constant reply"

@@ -15,11 +15,11 @@ use Rattle.messages.specs.declared.Asked.{Asked}
 use Rattle.messages.specs.declared.Asked.the-variants.{UnknownMessage, NotDigits, WrongLength, WrongProgram, CountZero, NotHeld, WrongPattern}
 use Rattle.messages.specs.Layout.{messageOf, isUnknown}
 use Rattle.messages.specs.Asked.{judged, askedOf, orderOf, notDigits, wrongLength, wrongProgram, countZero, notHeld, wrongPattern}
-use Rattle.link.specs.Call.{Call, Outcome, heldIn}
-use Rattle.link.specs.Refusals.{pointsFit, journalFits, axesFit, refusalOf, silentOf}
-use Rattle.link.specs.Answer.{numberOf, unchanged, refused, done, answerOf}
-use Rattle.link.proofs.Rows.{three, five, seven, ownOf, areaOf, saidOf, silent-rows, refusal-rows}
-use Rattle.link.proofs.Tested.{Points as PointsFit, Journal, points-fit, journal-fits}
+use Rattle.refusals.specs.Call.{Call, Outcome, heldIn}
+use Rattle.refusals.specs.Refusals.{pointsFit, journalFits, axesFit, refusalOf, silentOf, backRefusalOf}
+use Rattle.link.specs.Answer.{numberOf, unchanged, refused, done, answerOf, back, backOf}
+use Rattle.refusals.proofs.Rows.{three, five, seven, ownOf, areaOf, saidOf, silent-rows, refusal-rows}
+use Rattle.refusals.proofs.Tested.{Points as PointsFit, Journal, points-fit, journal-fits}
 
 -- every test before a reply is passed
 pub record Passed (c : Call) : Type 0 where
@@ -134,3 +134,12 @@ unfolding answerOf
 accepted-answer c a p e n =
     let f : refusalOf c ≡ 0 = spoken c p ∙ ap numberOf (sym e) ∙ n in
     rw (f, ← e)
+
+-- the step back's outcome
+pub refused-back : (c : Call) (k : ℕ) → k ≡ backRefusalOf c → (k ≡ 0 → ⊥) → backOf c ≡ unchanged c k []
+unfolding backOf
+refused-back c k e n = rw (← e, ne-eqb k 0 n)
+
+pub accepted-back : (c : Call) → backRefusalOf c ≡ 0 → backOf c ≡ back c
+unfolding backOf
+accepted-back c e = rw e

@@ -21,11 +21,11 @@ use Rattle.writes.proofs.Held.{within}
 use Rattle.writes.specs.Writes as writes
 use Rattle.link.specs.declared.Answered.{Answered}
 use Rattle.link.specs.declared.Kept.{Kept}
-use Rattle.link.specs.Call.{Call, Outcome, heldIn}
-use Rattle.link.specs.Refusals.{silentOf}
+use Rattle.refusals.specs.Call.{Call, Outcome, heldIn}
+use Rattle.refusals.specs.Refusals.{silentOf}
 use Rattle.link.specs.Answer.{unchanged, said, wrotePoints, wroteColumns, answerOf}
 use Rattle.link.specs.Contract.{Answers}
-use Rattle.link.proofs.Tested.{Points, Journal, points-fit, journal-fits, shaped-long}
+use Rattle.refusals.proofs.Tested.{Points, Journal, points-fit, journal-fits, shaped-long}
 use Rattle.link.proofs.Answering.{Passed, passed}
 
 -- what the tests before a reply assure

@@ -1,38 +1,18 @@
--- A lent run of axis records: what the test of its count says, and its laws.
+-- The laws of a lent run of axis records.
 use Prim.Native.Nat.{ℕ}
 use mathlib.Core.Path.{_≡_, refl, sym, _∙_}
 use mathlib.Core.Bool.{Bool, true, false, cond, not}
 use mathlib.Core.List.{List, [], _∷_}
 use native.Mathlib.Omega.{arith}
-use lib.Dec.{T, ltb, eqb}
-use lib.ListN.{length, replicate}
-use borrow.Author.Tests.{eq-eqb, ne-eqb, eqb-true}
-use Rattle.queries.specs.declared.AxisRecord.{AxisRecord}
-use Rattle.queries.specs.Replies.{zeroRecord}
-use Rattle.link.specs.declared.Axes.{Axes}
-use Rattle.link.specs.Call.{Call, heldIn}
-use Rattle.link.specs.Refusals.{pointsFit, journalFits, axesFit, table, firstOf, only, refusalOf}
-use Rattle.link.specs.Contract.{callOf, lentAxes}
+use lib.Dec.{ltb, eqb}
+use lib.ListN.{length}
+use borrow.Author.Tests.{eq-eqb, ne-eqb}
+use Rattle.refusals.specs.Call.{Call, heldIn}
+use Rattle.refusals.specs.Refusals.{pointsFit, journalFits, axesFit, table, firstOf, only, refusalOf}
+use Rattle.refusals.specs.Call.{callOf}
+use Rattle.lent.specs.Run.{lentAxes}
 use Rattle.link.specs.Laws.{SameEight, OtherCount}
-use Rattle.link.proofs.Rows.{ownOf, saidOf, refusal-rows}
-
-true-of : (b : Bool) → T (not (not b)) → b ≡ true
-true-of true h = refl
-true-of false h = absurd h
-
-false-of : (b : Bool) → T (not b) → b ≡ false
-false-of true h = absurd h
-false-of false h = refl
-
--- a run that passes the machine's test, and one that does not
-pub eight-long : (records : List AxisRecord) → T (not (not (eqb (length records) 8))) → length records ≡ 8
-eight-long records h = eqb-true _ _ (true-of (eqb (length records) 8) h)
-
-pub eight-axes : (records : List AxisRecord) (r : Axes) → T (not (not (eqb (length records) 8))) → (r .eight ≡ true) × (r .records ≡ records) → r ≡ lentAxes records
-eight-axes records r h e = rw (true-of (eqb (length records) 8) h) (λ i. record { eight = e .0 i; records = e .1 i })
-
-pub other-axes : (records : List AxisRecord) (r : Axes) → T (not (eqb (length records) 8)) → (r .eight ≡ false) × (r .records ≡ replicate 8 zeroRecord) → r ≡ lentAxes records
-other-axes records r h e = rw (false-of (eqb (length records) 8) h) (λ i. record { eight = e .0 i; records = e .1 i })
+use Rattle.refusals.proofs.Rows.{ownOf, saidOf, refusal-rows}
 
 pub same-eight : SameEight
 same-eight frame points columns journal used records settings reply h = rw (eq-eqb _ _ h)

@@ -1,5 +1,3 @@
-pub mod Rows
-pub mod Tested
 pub mod Answering
 pub mod Carrying
 pub mod Ordered

@@ -13,7 +13,7 @@ use Rattle.points.proofs.Measured.{rest-of}
 use Rattle.points.proofs.Parts.{all-drop}
 use Rattle.writes.specs.Writes.{Ready}
 use Rattle.writes.proofs.Held.{within}
-use Rattle.link.specs.Call.{Call, heldIn}
+use Rattle.refusals.specs.Call.{Call, heldIn}
 use Rattle.link.proofs.Carrying.{Fine, content-long, ready-points, ready-columns}
 
 -- the part of a content that is lent, from some digit on

@@ -32,8 +32,8 @@ use Rattle.messages.specs.declared.Asked.the-variants.{
 use Rattle.messages.specs.Asked.{askedOf}
 use Rattle.queries.specs.Replies.{countText, listText, columnsText, axesText}
 use Rattle.writes.specs.Writes.{entryOf}
-use Rattle.link.specs.Call.{Call, Outcome, heldIn}
-use Rattle.link.specs.Refusals.{refusalOf, backRefusalOf}
+use Rattle.refusals.specs.Call.{Call, Outcome, heldIn}
+use Rattle.refusals.specs.Refusals.{refusalOf, backRefusalOf}
 
 -- the number of each case of what a frame asks: 101 to 107, and 0 for an order
 abbrev pub numberOf : Asked → ℕ

@@ -5,9 +5,10 @@ use mathlib.Core.Bool.{true}
 use mathlib.Core.List.{List, [], _∷_}
 use lib.ListN.{length}
 use Rattle.queries.specs.declared.AxisRecord.{AxisRecord}
-use Rattle.link.specs.declared.Settings.{Settings}
-use Rattle.link.specs.Refusals.{table, firstOf, only, refusalOf}
-use Rattle.link.specs.Contract.{callOf, lentAxes}
+use Rattle.refusals.specs.declared.Settings.{Settings}
+use Rattle.refusals.specs.Refusals.{table, firstOf, only, refusalOf}
+use Rattle.refusals.specs.Call.{callOf}
+use Rattle.lent.specs.Run.{lentAxes}
 
 -- "First an array of eight by value; then a thin function reads the lent slice": eight records make the same call either way
 abbrev pub SameEight : Type 0

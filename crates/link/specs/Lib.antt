@@ -1,5 +1,3 @@
-pub mod Call
-pub mod Refusals
 pub mod Answer
 pub mod Contract
 pub mod Laws

@@ -1,11 +1,7 @@
 // The link: every frame answered, and the step back (document 01 whole).
-use frames::checks::is_ours;
-use frames::checks::is_shaped;
-use frames::checks::passes_sum;
 use frames::replies::error_reply;
-use journal::is_whole;
-use lent::eight_of;
-use lent::no_records;
+use lent::Axes;
+use lent::axes_of;
 use messages::Asked;
 use messages::content;
 use messages::judge;
@@ -16,37 +12,27 @@ use queries::reply_columns;
 use queries::reply_count;
 use queries::reply_list;
 use queries::reply_same;
+use refusals::Settings;
+use refusals::back_refusal;
+use refusals::silent;
 use writes::change_columns;
 use writes::clear_points;
 use writes::write_points;
 ghost use mathlib.Core.Path.{_≡_};
-ghost use mathlib.Core.Bool.{true, false};
 ghost use Prim.Native.Nat.{_+_, _*_, _/_, _≤_, _<_};
-ghost use lib.ListN.{length, replicate};
+ghost use lib.ListN.{length};
 ghost use Rattle.digits.specs.Laid.{laid};
 ghost use Rattle.frames.specs.Frame.{errorOf};
 ghost use Rattle.messages.specs.Asked.{askedOf};
-ghost use Rattle.queries.specs.Replies.{zeroRecord};
-ghost use Rattle.link.specs.Call.{heldIn};
-ghost use Rattle.link.specs.Refusals.{pointsFit, journalFits, recordsFit, axesFit, silentOf, heardOf, backRefusalOf};
+ghost use Rattle.lent.specs.Run.{lentAxes};
+ghost use Rattle.refusals.specs.Call.{heldIn, callOf, backCall};
+ghost use Rattle.refusals.specs.Refusals.{silentOf};
 ghost use Rattle.link.specs.Answer.{answerOf, backOf};
-ghost use Rattle.link.specs.Contract.{callOf, frameCall, backCall, lentAxes, Answers, StepsBack};
-
-// The board's settings.
-pub struct Settings {
-    pub station: u8,
-    pub fitted: u8,
-}
+ghost use Rattle.link.specs.Contract.{Answers, StepsBack};
 
 // What is handed on from call to call.
 pub struct Kept {
     pub used: usize,
-}
-
-// The axis records, and whether there were eight.
-pub struct Axes {
-    pub eight: bool,
-    pub records: [AxisRecord; 8],
 }
 
 // The answer to a frame: its number, the reply's length, what is handed on.
@@ -60,118 +46,6 @@ pub struct Answered {
 pub struct Back {
     pub number: u16,
     pub kept: Kept,
-}
-
-// Refusal 2, passed: a multiple of 40 from 40 to 60,000.
-fn fits_points(points: &[u8]) -> bool
-    ensures { λ r. ⌜ r ≡ pointsFit (now (points .entry)) ⌝ }
-{
-    let n = points.len();
-    if n % Point::SLOT != 0 {
-        return false;
-    }
-    if n < Point::SLOT {
-        return false;
-    }
-    n <= 60000
-}
-
-// Refusal 4, passed: the journal's length, the used length, and whole well-formed entries.
-fn fits_journal(journal: &[u8], used: usize, n: usize) -> bool
-    requires { ⌜ n ≤ 1500 ⌝ }
-    ensures { λ r. ⌜ r ≡ journalFits n (now (journal .entry)) used ⌝ }
-{
-    if journal.len() < 40 * n + 300 {
-        return false;
-    }
-    if journal.len() > 65536 {
-        return false;
-    }
-    if used > journal.len() {
-        return false;
-    }
-    is_whole(&journal[..used], n)
-}
-
-fn fits_records(records: [AxisRecord; 8]) -> bool
-    ensures { λ r. ⌜ r ≡ recordsFit records ⌝ }
-{
-    let mut i = 0;
-    while i < 8 {
-        let record = records[i];
-        if record.sensor > 15 {
-            return false;
-        }
-        if record.error > 4095 {
-            return false;
-        }
-        i += 1;
-    }
-    true
-}
-
-// Refusal 5, passed: eight records, no sensor or error code too large, a fitted axis.
-fn fits_axes(axes: Axes, fitted: u8) -> bool
-    ensures { λ r. ⌜ r ≡ axesFit (axes .eight) (axes .records) fitted ⌝ }
-{
-    let eight = axes.eight;
-    let records = axes.records;
-    if !eight {
-        return false;
-    }
-    if !fits_records(records) {
-        return false;
-    }
-    fitted != 0
-}
-
-// The refusal without a reply, 1 to 8, or 0.
-fn silent(
-    frame: &[u8],
-    points: &[u8],
-    columns: &[u8],
-    journal: &[u8],
-    used: usize,
-    axes: Axes,
-    settings: Settings,
-    reply: &[u8],
-) -> u16
-    ensures { λ r. ⌜ r ≡ silentOf (callOf (now (frame .entry)) (now (points .entry)) (now (columns .entry)) (now (journal .entry)) used axes settings (now (reply .entry))) ⌝ }
-{
-    let station = settings.station;
-    let fitted = settings.fitted;
-    if reply.len() < 1024 {
-        return 1;
-    }
-    if !fits_points(points) {
-        return 2;
-    }
-    if columns.len() != 700 {
-        return 3;
-    }
-    if !fits_journal(journal, used, points.len() / Point::SLOT) {
-        return 4;
-    }
-    if !fits_axes(axes, fitted) {
-        return 5;
-    }
-    heard(frame, station)
-}
-
-// Tests 6, 7 and 8.
-fn heard(frame: &[u8], station: u8) -> u16
-    ensures { λ r. ⌜ r ≡ heardOf (frameCall (now (frame .entry)) station) ⌝ }
-{
-    if !is_shaped(frame) {
-        return 6;
-    }
-    if !passes_sum(frame) {
-        return 7;
-    }
-    if !is_ours(frame, station) {
-        return 8;
-    }
-    0
 }
 
 // The ten bytes of an error reply.
@@ -299,35 +173,6 @@ pub fn answer(
     )
 }
 
-fn eight_axes(records: [AxisRecord; 8]) -> Axes
-    ensures { λ r. ⌜ (r .eight ≡ true) × (r .records ≡ records) ⌝ }
-{
-    Axes {
-        eight: true,
-        records,
-    }
-}
-
-// Another count than eight: refusal 5, whatever the records are.
-fn no_axes() -> Axes
-    ensures { λ r. ⌜ (r .eight ≡ false) × (r .records ≡ replicate 8 zeroRecord) ⌝ }
-{
-    Axes {
-        eight: false,
-        records: no_records(),
-    }
-}
-
-// The lent run is read here alone, so that the rest takes the array by value.
-fn axes_of(records: &[AxisRecord]) -> Axes
-    ensures { λ r. ⌜ r ≡ lentAxes (now (records .entry)) ⌝ }
-{
-    if records.len() != 8 {
-        return no_axes();
-    }
-    eight_axes(eight_of(records))
-}
-
 // The same answer with the axis records as the motion board lends them: any count.
 pub fn answer_lent(
     frame: &[u8],
@@ -360,23 +205,4 @@ pub fn step_back(points: &mut [u8], columns: &mut [u8], journal: &mut [u8], kept
         number: 0,
         kept: Kept { used: left },
     }
-}
-
-// Tests 2, 3, 4, then 9.
-fn back_refusal(points: &[u8], columns: &[u8], journal: &[u8], used: usize) -> u16
-    ensures { λ r. ⌜ r ≡ backRefusalOf (backCall (now (points .entry)) (now (columns .entry)) (now (journal .entry)) used) ⌝ }
-{
-    if !fits_points(points) {
-        return 2;
-    }
-    if columns.len() != 700 {
-        return 3;
-    }
-    if !fits_journal(journal, used, points.len() / Point::SLOT) {
-        return 4;
-    }
-    if used == 0 {
-        return 9;
-    }
-    0
 }

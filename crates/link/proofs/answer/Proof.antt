@@ -1,7 +1,7 @@
 use Rattle.digits.proofs.Laid.{laid-nothing}
 use mathlib.Core.Path.{_≡_, refl, sym, _∙_}
-use Rattle.link.specs.Call.{Call}
-use Rattle.link.specs.Contract.{callOf}
+use Rattle.refusals.specs.Call.{Call}
+use Rattle.refusals.specs.Call.{callOf}
 use Rattle.link.proofs.Answering.{passed, silent-answer}
 use Rattle.link.proofs.Carrying.{fine}
 use borrow.Author.Needs.{needs}
@@ -10,7 +10,7 @@ use Rattle.link.proofs.answer.Tie as tie
 use Rattle.link.proofs.answer.Reads as reads
 use Rattle.link.proofs.answer.Lts as lts
 use Rattle.link.proofs.carry_out.Reads as carry-out-reads
-use Rattle.link.proofs.silent.Reads as silent-reads
+use Rattle.refusals.proofs.silent.Reads as silent-reads
 use Rattle.messages.proofs.judge.Reads as judge-reads
 
 -- the call as it is made

@@ -38,28 +38,29 @@ use denote.Triple.Clauses.{ensured, lasts}
 use Rattle.queries.specs.declared.AxisRecord.{AxisRecord}
 use Rattle.queries.proofs.AxisRecord as T
 use Rattle.link.specs.declared.Answered.{Answered}
-use Rattle.link.specs.declared.Axes.{Axes}
+use Rattle.lent.specs.declared.Axes.{Axes}
 use Rattle.link.specs.declared.Kept.{Kept}
-use Rattle.link.specs.declared.Settings.{Settings}
+use Rattle.refusals.specs.declared.Settings.{Settings}
 use Rattle.link.specs.Answer.{answerOf}
-use Rattle.link.specs.Contract.{callOf, Answers}
-use Rattle.link.specs.Contract.{lentAxes}
+use Rattle.refusals.specs.Call.{callOf}
+use Rattle.link.specs.Contract.{Answers}
+use Rattle.lent.specs.Run.{lentAxes}
 use Rattle.link.proofs.Answered as N
 use Rattle.link.proofs.Answered.Laws as N′
-use Rattle.link.proofs.Axes as X
-use Rattle.link.proofs.Axes.Laws as X′
+use Rattle.lent.proofs.Axes as X
+use Rattle.lent.proofs.Axes.Laws as X′
 use Rattle.link.proofs.Kept as K
 use Rattle.link.proofs.Kept.Laws as K′
-use Rattle.link.proofs.Settings as S
-use Rattle.link.proofs.Settings.Laws as S′
+use Rattle.refusals.proofs.Settings as S
+use Rattle.refusals.proofs.Settings.Laws as S′
 use Rattle.link.proofs.answer as answer
 use Rattle.link.proofs.answer.Symbol as answer-def
 use Rattle.link.proofs.answer.Symbol.{name as #link·answer}
 use Rattle.link.proofs.answer.Met as answer-thm
-use Rattle.link.proofs.axes_of as axes
-use Rattle.link.proofs.axes_of.Symbol as axes-def
-use Rattle.link.proofs.axes_of.Symbol.{name as #link·axes-of}
-use Rattle.link.proofs.axes_of.Met as axes-thm
+use Rattle.lent.proofs.axes_of as axes
+use Rattle.lent.proofs.axes_of.Symbol as axes-def
+use Rattle.lent.proofs.axes_of.Symbol.{name as #lent·axes-of}
+use Rattle.lent.proofs.axes_of.Met as axes-thm
 use Rattle.link.proofs.answer_lent.Key.{name as #key}
 use Rattle.link.proofs.answer_lent as fun
 use Rattle.link.proofs.answer_lent.Statement as stated
@@ -224,7 +225,7 @@ module _ {M : Type 1} (𝓤 : URA M) (H : Heap 𝓤) (A : Atoms 𝓤) (W : Given
       owned ! K.the-row (Is K.the-row) (LL.makes K.the-type K′.the-plain 𝓤 H A) k (K′.lowered k ∷ []) k-is $ owned ! S.the-row (Is S.the-row) (LL.makes S.the-type S′.the-plain 𝓤 H A) t (S′.lowered t ∷ []) t-is $
       move ! (2 ∷ 9 ∷ 8 ∷ 7 ∷ 1 ∷ 3 ∷ 0 ∷ 5 ∷ 4 ∷ []) $ group ! 9 $ frame ! $ drop ! $ done !))))
 
-  module _ (C : Calls 𝓤 H) (Λ : Loops 𝓤 H) (fm : FmC 𝓤 H (W .laws) C) (known-axes : Triple 𝓤 (C #link·axes-of) (AxesOf 𝓤 H A mem run)) (known-answer : Triple 𝓤 (C #link·answer) (Answer 𝓤 H A mem run)) where
+  module _ (C : Calls 𝓤 H) (Λ : Loops 𝓤 H) (fm : FmC 𝓤 H (W .laws) C) (known-axes : Triple 𝓤 (C #lent·axes-of) (AxesOf 𝓤 H A mem run)) (known-answer : Triple 𝓤 (C #link·answer) (Answer 𝓤 H A mem run)) where
     walk : Room u8 (length (now f)) → Room u8 (length (now p)) → Room u8 (length (now c)) → Room u8 (length (now j)) → Room T.the-row (length (now s)) → Room u8 (length (now y))
         → ent 𝓤 (onEntry 𝓤 H A fun.signature κs₆ qs₆ a vals) (WpFn 𝓤 H C Λ code.function (bytes-of f ∷ bytes-of p ∷ bytes-of c ∷ bytes-of j ∷ K′.lowered k ∷ vs ∷ S′.lowered t ∷ bytes-of y ∷ []) Post)
     walk gf gp gc gj gs gy =
@@ -264,7 +265,7 @@ module _ {M : Type 1} (𝓤 : URA M) (H : Heap 𝓤) (A : Atoms 𝓤) (W : Given
         by ! (exits r z v ws e said))))))))))))))))))))))))))))
 
 module _ {M : Type 1} (𝓤 : URA M) (H : Heap 𝓤) (A : Atoms 𝓤) (W : Given 𝓤 H A) (mem : Memory → SProp 𝓤) (run : Routine → Fun 𝓤) where
-  fun-walks : (C : Calls 𝓤 H) (Λ : Loops 𝓤 H) → FmC 𝓤 H (W .laws) C → Triple 𝓤 (C #link·axes-of) (AxesOf 𝓤 H A mem run) → Triple 𝓤 (C #link·answer) (Answer 𝓤 H A mem run)
+  fun-walks : (C : Calls 𝓤 H) (Λ : Loops 𝓤 H) → FmC 𝓤 H (W .laws) C → Triple 𝓤 (C #lent·axes-of) (AxesOf 𝓤 H A mem run) → Triple 𝓤 (C #link·answer) (Answer 𝓤 H A mem run)
       → Walks 𝓤 H A fun.ended stayed (WpFn 𝓤 H C Λ code.function) (fun.clauses 𝓤 H A mem run)
   fun-walks C Λ fm known-axes known-answer = walked 𝓤 H A fun.ended stayed (fun.clauses 𝓤 H A mem run) (WpFn 𝓤 H C Λ code.function)
       (λ κs. (slice-vals, (slice-vals, (slice-vals, (slice-vals, (LL.vals K.the-type K′.the-laws, (slice-vals, (LL.vals S.the-type S′.the-laws, (slice-vals, tt)))))))))
@@ -275,7 +276,7 @@ module _ {M : Type 1} (𝓤 : URA M) (H : Heap 𝓤) (A : Atoms 𝓤) (W : Given
       (are .0 .0 .1) (are .1 .0 .0 .1) (are .1 .1 .0 .0 .1) (are .1 .1 .1 .0 .0 .1) (are .1 .1 .1 .1 .1 .0 .0 .1) (are .1 .1 .1 .1 .1 .1 .1 .0 .0 .1)))
 
 fun-meets : {M : Type 1} (𝓤 : URA M) (H : Heap 𝓤) (A : Atoms 𝓤) (W : Given 𝓤 H A) (mem : Memory → SProp 𝓤) (run : Routine → Fun 𝓤) (𝓣 : Tables 𝓤 H)
-    → Triple 𝓤 (𝓣 .C #link·axes-of) (AxesOf 𝓤 H A mem run) → Triple 𝓤 (𝓣 .C #link·answer) (Answer 𝓤 H A mem run)
+    → Triple 𝓤 (𝓣 .C #lent·axes-of) (AxesOf 𝓤 H A mem run) → Triple 𝓤 (𝓣 .C #link·answer) (Answer 𝓤 H A mem run)
     → Meets 𝓤 H A fun.signature (WpFn 𝓤 H (𝓣 .C) (𝓣 .Λ) code.function) (fun.spec 𝓤 H A mem run)
 fun-meets 𝓤 H A W mem run 𝓣 known-axes known-answer =
     walk-meets 𝓤 H A fun.ended stayed W (
@@ -309,5 +310,5 @@ answer-lent-spec 𝓤 H 𝓜 𝓖 𝓡 =
     entered 𝓤 H (tripleOf 𝓤 H (𝓖 .A) fun.signature (fun.spec 𝓤 H (𝓖 .A) (𝓜 .mem) (𝓡 .run)))
     (tables 𝓤 H 𝓜 𝓡 code.env .C) (tables 𝓤 H 𝓜 𝓡 code.env .Λ) #key code.function (code.unfolded 𝓤 H 𝓜 𝓡)
     (fun-meets 𝓤 H (𝓖 .A) (givenOf 𝓤 H 𝓜 𝓖) (𝓜 .mem) (𝓡 .run) (tablesOf 𝓤 H 𝓜 (tables 𝓤 H 𝓜 𝓡 code.env))
-    (cited 𝓤 H (AxesOf 𝓤 H (𝓖 .A) (𝓜 .mem) (𝓡 .run)) 𝓜 𝓡 code.env #link·axes-of axes-def.routine code.calls-link·axes-of (axes-thm.met 𝓤 H 𝓜 𝓖 𝓡))
+    (cited 𝓤 H (AxesOf 𝓤 H (𝓖 .A) (𝓜 .mem) (𝓡 .run)) 𝓜 𝓡 code.env #lent·axes-of axes-def.routine code.calls-lent·axes-of (axes-thm.met 𝓤 H 𝓜 𝓖 𝓡))
     (cited 𝓤 H (Answer 𝓤 H (𝓖 .A) (𝓜 .mem) (𝓡 .run)) 𝓜 𝓡 code.env #link·answer answer-def.routine code.calls-link·answer (answer-thm.met 𝓤 H 𝓜 𝓖 𝓡)))

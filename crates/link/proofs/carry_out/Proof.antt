@@ -8,9 +8,9 @@ use Rattle.frames.specs.Frame.{errorOf, messageIn, contentIn}
 use Rattle.messages.specs.declared.Asked.{Asked}
 use Rattle.messages.specs.Asked.{askedOf}
 use Rattle.messages.proofs.Readiness.{Ready}
-use Rattle.link.specs.Call.{Call, heldIn}
+use Rattle.refusals.specs.Call.{Call, heldIn}
 use Rattle.link.specs.Answer.{numberOf, unchanged, done, answerOf}
-use Rattle.link.specs.Contract.{callOf}
+use Rattle.refusals.specs.Call.{callOf}
 use Rattle.link.proofs.Answering.{Passed, passed, refused-answer, accepted-answer}
 use Rattle.link.proofs.Carrying.{Fine, fine, told, content-long, same-text, answered-refused, answered-said, answered-points, answered-columns, ready-points, ready-columns}
 use Rattle.link.proofs.Ordered.{part-is, list-needs, columns-needs, clear-needs, write-needs, change-needs}

@@ -1,8 +1,10 @@
 use Prim.Native.Nat.{ℕ, suc, _+_, _-_, _*_, _/_, _%_, _≤_, _<_}
 use mathlib.Core.Path.{_≡_, refl, sym, ap, _∙_}
 use native.Mathlib.Omega.{arith}
-use Rattle.link.proofs.Tested.{CanStepBack, can-step-back, refused-back, accepted-back}
-use Rattle.link.specs.Contract.{StepsBack, backCall}
+use Rattle.refusals.proofs.Tested.{CanStepBack, can-step-back}
+use Rattle.link.proofs.Answering.{refused-back, accepted-back}
+use Rattle.refusals.specs.Call.{backCall}
+use Rattle.link.specs.Contract.{StepsBack}
 use borrow.Author.Needs.{needs}
 use Rattle.link.proofs.step_back.Statement.{statement}
 use Rattle.link.proofs.step_back.Tie as tie

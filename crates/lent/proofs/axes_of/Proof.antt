@@ -39,28 +39,28 @@ use Rattle.queries.specs.declared.AxisRecord.{AxisRecord}
 use Rattle.queries.specs.Replies.{zeroRecord}
 use Rattle.queries.proofs.AxisRecord as T
 use Rattle.queries.proofs.AxisRecord.Laws as T′
-use Rattle.link.specs.declared.Axes.{Axes}
-use Rattle.link.proofs.Axes as X
-use Rattle.link.proofs.Axes.Laws as X′
-use Rattle.link.specs.Contract.{lentAxes}
-use Rattle.link.proofs.Lent.{eight-long, eight-axes, other-axes}
+use Rattle.lent.specs.declared.Axes.{Axes}
+use Rattle.lent.proofs.Axes as X
+use Rattle.lent.proofs.Axes.Laws as X′
+use Rattle.lent.specs.Run.{lentAxes}
+use Rattle.lent.proofs.Counted.{eight-long, eight-axes, other-axes}
 use Rattle.lent.proofs.eight_of as eight
 use Rattle.lent.proofs.eight_of.Symbol as eight-def
 use Rattle.lent.proofs.eight_of.Symbol.{name as #lent·eight-of}
 use Rattle.lent.proofs.eight_of.Met as eight-thm
-use Rattle.link.proofs.eight_axes as made
-use Rattle.link.proofs.eight_axes.Symbol as made-def
-use Rattle.link.proofs.eight_axes.Symbol.{name as #link·eight-axes}
-use Rattle.link.proofs.eight_axes.Met as made-thm
-use Rattle.link.proofs.no_axes as none
-use Rattle.link.proofs.no_axes.Symbol as none-def
-use Rattle.link.proofs.no_axes.Symbol.{name as #link·no-axes}
-use Rattle.link.proofs.no_axes.Met as none-thm
-use Rattle.link.proofs.axes_of.Key.{name as #key}
-use Rattle.link.proofs.axes_of as fun
-use Rattle.link.proofs.axes_of.Statement as stated
-use Rattle.link.proofs.axes_of.Code as code
-use Rattle.link.proofs.axes_of.Code.Mir as Mir
+use Rattle.lent.proofs.eight_axes as made
+use Rattle.lent.proofs.eight_axes.Symbol as made-def
+use Rattle.lent.proofs.eight_axes.Symbol.{name as #lent·eight-axes}
+use Rattle.lent.proofs.eight_axes.Met as made-thm
+use Rattle.lent.proofs.no_axes as none
+use Rattle.lent.proofs.no_axes.Symbol as none-def
+use Rattle.lent.proofs.no_axes.Symbol.{name as #lent·no-axes}
+use Rattle.lent.proofs.no_axes.Met as none-thm
+use Rattle.lent.proofs.axes_of.Key.{name as #key}
+use Rattle.lent.proofs.axes_of as fun
+use Rattle.lent.proofs.axes_of.Statement as stated
+use Rattle.lent.proofs.axes_of.Code as code
+use Rattle.lent.proofs.axes_of.Code.Mir as Mir
 
 abbrev Eight : RattleType
 Eight = Array T.the-row 8
@@ -135,7 +135,7 @@ module _ {M : Type 1} (𝓤 : URA M) (H : Heap 𝓤) (A : Atoms 𝓤) (W : Given
   made-said : (r : List AxisRecord) (t : Axes) → ent 𝓤 (ensured 𝓤 H A made.ended (made.clauses 𝓤 H A mem run) tt (r, tt) tt t) (fact 𝓤 (Made r t))
   made-said r t = exE 𝓤 _ (λ ws. snd∗ 𝓤 (sem 𝓤 H A (lasts made.ended tt (r, tt) ws)) (fact 𝓤 (Made r t)))
 
-  module _ (C : Calls 𝓤 H) (Λ : Loops 𝓤 H) (fm : FmC 𝓤 H (W .laws) C) (known-none : Triple 𝓤 (C #link·no-axes) (NoAxes 𝓤 H A mem run)) (known-eight : Triple 𝓤 (C #lent·eight-of) (EightOf 𝓤 H A mem run)) (known-made : Triple 𝓤 (C #link·eight-axes) (EightAxes 𝓤 H A mem run)) where
+  module _ (C : Calls 𝓤 H) (Λ : Loops 𝓤 H) (fm : FmC 𝓤 H (W .laws) C) (known-none : Triple 𝓤 (C #lent·no-axes) (NoAxes 𝓤 H A mem run)) (known-eight : Triple 𝓤 (C #lent·eight-of) (EightOf 𝓤 H A mem run)) (known-made : Triple 𝓤 (C #lent·eight-axes) (EightAxes 𝓤 H A mem run)) where
     walk : Is (ShrSlice (named 0) κ T.the-row) s (v ∷ []) → Room T.the-row (length (now s)) → ent 𝓤 (onEntry 𝓤 H A fun.signature (κ, tt) (q, tt) (s, tt) (v ∷ [], tt)) (WpFn 𝓤 H C Λ code.function (v ∷ []) Post)
     walk p gn =
         qed W ((‵ (flft κ q) ⊛ ‵ ftrue) ∷ ‵ (owns (ShrSlice (named 0) κ T.the-row ∷ []) (s, tt) (v ∷ [], tt)) ∷ []) ∵ enter ! C Λ code.function (v ∷ []) _ $
@@ -174,13 +174,13 @@ module _ {M : Type 1} (𝓤 : URA M) (H : Heap 𝓤) (A : Atoms 𝓤) (W : Given
         by ! (exits t u′ (eight-axes (now s) t failed (e′ .0, e′ .1 ∙ e)))))))))))))))))
 
 module _ {M : Type 1} (𝓤 : URA M) (H : Heap 𝓤) (A : Atoms 𝓤) (W : Given 𝓤 H A) (mem : Memory → SProp 𝓤) (run : Routine → Fun 𝓤) where
-  fun-walks : (C : Calls 𝓤 H) (Λ : Loops 𝓤 H) → FmC 𝓤 H (W .laws) C → Triple 𝓤 (C #link·no-axes) (NoAxes 𝓤 H A mem run) → Triple 𝓤 (C #lent·eight-of) (EightOf 𝓤 H A mem run) → Triple 𝓤 (C #link·eight-axes) (EightAxes 𝓤 H A mem run)
+  fun-walks : (C : Calls 𝓤 H) (Λ : Loops 𝓤 H) → FmC 𝓤 H (W .laws) C → Triple 𝓤 (C #lent·no-axes) (NoAxes 𝓤 H A mem run) → Triple 𝓤 (C #lent·eight-of) (EightOf 𝓤 H A mem run) → Triple 𝓤 (C #lent·eight-axes) (EightAxes 𝓤 H A mem run)
       → Walks 𝓤 H A fun.ended stayed (WpFn 𝓤 H C Λ code.function) (fun.clauses 𝓤 H A mem run)
   fun-walks C Λ fm known-none known-eight known-made = walked 𝓤 H A fun.ended stayed (fun.clauses 𝓤 H A mem run) (WpFn 𝓤 H C Λ code.function) (λ κs. (slice-vals, tt)) (λ κs. (shr-slice-tells (named 0) (κs .0) T.the-row, tt))
       (λ κs qs bounds a g are. via 𝓤 _ (fst∗ 𝓤 _ (emp 𝓤)) (walk 𝓤 H A W mem run (κs .0) (qs .0) (a .0) C Λ fm known-none known-eight known-made (are .0) (are .0 .0 .1)))
 
 fun-meets : {M : Type 1} (𝓤 : URA M) (H : Heap 𝓤) (A : Atoms 𝓤) (W : Given 𝓤 H A) (mem : Memory → SProp 𝓤) (run : Routine → Fun 𝓤) (𝓣 : Tables 𝓤 H)
-    → Triple 𝓤 (𝓣 .C #link·no-axes) (NoAxes 𝓤 H A mem run) → Triple 𝓤 (𝓣 .C #lent·eight-of) (EightOf 𝓤 H A mem run) → Triple 𝓤 (𝓣 .C #link·eight-axes) (EightAxes 𝓤 H A mem run)
+    → Triple 𝓤 (𝓣 .C #lent·no-axes) (NoAxes 𝓤 H A mem run) → Triple 𝓤 (𝓣 .C #lent·eight-of) (EightOf 𝓤 H A mem run) → Triple 𝓤 (𝓣 .C #lent·eight-axes) (EightAxes 𝓤 H A mem run)
     → Meets 𝓤 H A fun.signature (WpFn 𝓤 H (𝓣 .C) (𝓣 .Λ) code.function) (fun.spec 𝓤 H A mem run)
 fun-meets 𝓤 H A W mem run 𝓣 known-none known-eight known-made = walk-meets 𝓤 H A fun.ended stayed W (goes-none-slice 𝓤 H A W 1 (0 ∷ []) tt (plain (λ _. T.the-row)) yes, tt) (fun.clauses 𝓤 H A mem run) (WpFn 𝓤 H (𝓣 .C) (𝓣 .Λ) code.function) (WpFn-mono 𝓤 H (W .laws) 𝓣 code.function)
     (fun-walks 𝓤 H A W mem run (𝓣 .C) (𝓣 .Λ) (fmOf 𝓤 H (W .laws) 𝓣) known-none known-eight known-made)
@@ -191,6 +191,6 @@ axes-of-spec 𝓤 H 𝓜 𝓖 𝓡 =
     entered 𝓤 H (tripleOf 𝓤 H (𝓖 .A) fun.signature (fun.spec 𝓤 H (𝓖 .A) (𝓜 .mem) (𝓡 .run)))
     (tables 𝓤 H 𝓜 𝓡 code.env .C) (tables 𝓤 H 𝓜 𝓡 code.env .Λ) #key code.function (code.unfolded 𝓤 H 𝓜 𝓡)
     (fun-meets 𝓤 H (𝓖 .A) (givenOf 𝓤 H 𝓜 𝓖) (𝓜 .mem) (𝓡 .run) (tablesOf 𝓤 H 𝓜 (tables 𝓤 H 𝓜 𝓡 code.env))
-    (cited 𝓤 H (NoAxes 𝓤 H (𝓖 .A) (𝓜 .mem) (𝓡 .run)) 𝓜 𝓡 code.env #link·no-axes none-def.routine code.calls-link·no-axes (none-thm.met 𝓤 H 𝓜 𝓖 𝓡))
+    (cited 𝓤 H (NoAxes 𝓤 H (𝓖 .A) (𝓜 .mem) (𝓡 .run)) 𝓜 𝓡 code.env #lent·no-axes none-def.routine code.calls-lent·no-axes (none-thm.met 𝓤 H 𝓜 𝓖 𝓡))
     (cited 𝓤 H (EightOf 𝓤 H (𝓖 .A) (𝓜 .mem) (𝓡 .run)) 𝓜 𝓡 code.env #lent·eight-of eight-def.routine code.calls-lent·eight-of (eight-thm.met 𝓤 H 𝓜 𝓖 𝓡))
-    (cited 𝓤 H (EightAxes 𝓤 H (𝓖 .A) (𝓜 .mem) (𝓡 .run)) 𝓜 𝓡 code.env #link·eight-axes made-def.routine code.calls-link·eight-axes (made-thm.met 𝓤 H 𝓜 𝓖 𝓡)))
+    (cited 𝓤 H (EightAxes 𝓤 H (𝓖 .A) (𝓜 .mem) (𝓡 .run)) 𝓜 𝓡 code.env #lent·eight-axes made-def.routine code.calls-lent·eight-axes (made-thm.met 𝓤 H 𝓜 𝓖 𝓡)))

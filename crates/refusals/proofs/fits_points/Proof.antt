@@ -1,7 +1,7 @@
-use Rattle.link.specs.Refusals.{pointsFit}
+use Rattle.refusals.specs.Refusals.{pointsFit}
 use borrow.Author.Tests.{eq-eqb, ne-eqb, le-leb, lt-leb}
-use Rattle.link.proofs.fits_points.Statement.{statement}
-use Rattle.link.proofs.fits_points.Tie as tie
+use Rattle.refusals.proofs.fits_points.Statement.{statement}
+use Rattle.refusals.proofs.fits_points.Tie as tie
 
 returns : tie.Need-returns
 unfolding pointsFit

@@ -1,9 +1,9 @@
 use Rattle.messages.proofs.Judging.{was-false, was-true}
-use Rattle.link.specs.Contract.{frameCall}
-use Rattle.link.proofs.Tested.{shaped-long, heard-6, heard-7, heard-8, heard-0}
+use Rattle.refusals.specs.Call.{frameCall}
+use Rattle.refusals.proofs.Tested.{shaped-long, heard-6, heard-7, heard-8, heard-0}
 use borrow.Author.Needs.{needs}
-use Rattle.link.proofs.heard.Statement.{statement}
-use Rattle.link.proofs.heard.Tie as tie
+use Rattle.refusals.proofs.heard.Statement.{statement}
+use Rattle.refusals.proofs.heard.Tie as tie
 
 is-shaped-requires : tie.Need-is-shaped-requires
 is-shaped-requires c κs = search needs

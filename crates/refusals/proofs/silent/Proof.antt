@@ -1,11 +1,11 @@
 use mathlib.Core.Path.{_≡_, refl, sym, ap, _∙_}
 use native.Mathlib.Omega.{arith}
 use Rattle.messages.proofs.Judging.{was-false, was-true}
-use Rattle.link.specs.Contract.{callOf}
-use Rattle.link.proofs.Tested.{points-fit, silent-1, silent-2, silent-3, silent-4, silent-5, silent-own}
+use Rattle.refusals.specs.Call.{callOf}
+use Rattle.refusals.proofs.Tested.{points-fit, silent-1, silent-2, silent-3, silent-4, silent-5, silent-own}
 use borrow.Author.Needs.{needs}
-use Rattle.link.proofs.silent.Statement.{statement}
-use Rattle.link.proofs.silent.Tie as tie
+use Rattle.refusals.proofs.silent.Statement.{statement}
+use Rattle.refusals.proofs.silent.Tie as tie
 
 returns : tie.Need-returns
 returns c = silent-1 (callOf (c .before .before .before .before .before .before .args .frame .now) (c .before .before .before .before .before .before .args .points .now) (c .before .before .before .before .before .before .args .columns .now) (c .before .before .before .before .before .before .args .journal .now) (c .before .before .before .before .before .before .args .used) (c .before .before .before .before .before .before .args .axes) (c .before .before .before .before .before .before .args .settings) (c .before .before .before .before .before .before .args .reply .now)) (c .if1 .taken)

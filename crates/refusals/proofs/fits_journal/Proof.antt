@@ -2,10 +2,10 @@ use mathlib.Core.Path.{_≡_, refl, sym, ap, _∙_}
 use native.Mathlib.Omega.{arith}
 use borrow.Author.Tests.{eq-eqb, ne-eqb, le-leb, lt-leb}
 use lib.Seq.{length-take-le}
-use Rattle.link.specs.Refusals.{journalFits}
+use Rattle.refusals.specs.Refusals.{journalFits}
 use borrow.Author.Needs.{needs}
-use Rattle.link.proofs.fits_journal.Statement.{statement}
-use Rattle.link.proofs.fits_journal.Tie as tie
+use Rattle.refusals.proofs.fits_journal.Statement.{statement}
+use Rattle.refusals.proofs.fits_journal.Tie as tie
 
 mul-if1 : tie.Need-mul-if1
 mul-if1 c = search needs

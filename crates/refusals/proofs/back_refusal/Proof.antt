@@ -1,10 +1,10 @@
-use Rattle.link.specs.Contract.{backCall}
+use Rattle.refusals.specs.Call.{backCall}
 use native.Mathlib.Omega.{arith}
 use Rattle.messages.proofs.Judging.{was-false, was-true}
-use Rattle.link.proofs.Tested.{points-fit, back-2, back-3, back-4, back-9, back-0}
+use Rattle.refusals.proofs.Tested.{points-fit, back-2, back-3, back-4, back-9, back-0}
 use borrow.Author.Needs.{needs}
-use Rattle.link.proofs.back_refusal.Statement.{statement}
-use Rattle.link.proofs.back_refusal.Tie as tie
+use Rattle.refusals.proofs.back_refusal.Statement.{statement}
+use Rattle.refusals.proofs.back_refusal.Tie as tie
 
 fits-points-requires : tie.Need-fits-points-requires
 fits-points-requires c κs = search needs

@@ -1,10 +1,10 @@
 use mathlib.Core.Path.{_≡_, refl, sym, ap, _∙_}
 use Rattle.messages.proofs.Judging.{was-false, was-true}
 use borrow.Author.Tests.{not-true, not-false}
-use Rattle.link.specs.Refusals.{axesFit}
+use Rattle.refusals.specs.Refusals.{axesFit}
 use borrow.Author.Needs.{needs}
-use Rattle.link.proofs.fits_axes.Statement.{statement}
-use Rattle.link.proofs.fits_axes.Tie as tie
+use Rattle.refusals.proofs.fits_axes.Statement.{statement}
+use Rattle.refusals.proofs.fits_axes.Tie as tie
 
 returns : tie.Need-returns
 unfolding axesFit

@@ -8,8 +8,8 @@ use mathlib.Core.List.{List}
 use Rattle.frames.specs.Frame.{contentIn, shaped, sumPasses, stationPasses}
 use Rattle.messages.specs.Layout.{messageOf, isUnknown}
 use Rattle.messages.specs.Asked.{notDigits, wrongLength, wrongProgram, countZero, notHeld, wrongPattern}
-use Rattle.link.specs.Call.{Call, heldIn}
-use Rattle.link.specs.Refusals.{pointsFit, journalFits, axesFit, table, refusalOf, silentOf, heardOf, backRefusalOf}
+use Rattle.refusals.specs.Call.{Call, heldIn}
+use Rattle.refusals.specs.Refusals.{pointsFit, journalFits, axesFit, table, refusalOf, silentOf, heardOf, backRefusalOf}
 
 abbrev pub three : Bool → Bool → Bool → ℕ → ℕ
 three p q r k = cond p 6 (cond q 7 (cond r 8 k))

@@ -9,7 +9,7 @@ use Rattle.journal.specs.Journal.{whole}
 use Rattle.messages.specs.Layout.{messageOf, isUnknown}
 use Rattle.messages.specs.Asked.{notDigits, wrongLength, wrongProgram, countZero, notHeld, wrongPattern}
 use Rattle.queries.specs.declared.AxisRecord.{AxisRecord}
-use Rattle.link.specs.Call.{Call, heldIn}
+use Rattle.refusals.specs.Call.{Call, heldIn}
 
 -- a line of the table: the number, and when it is given
 pub record Row : Type 0 where

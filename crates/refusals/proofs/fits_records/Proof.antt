@@ -3,10 +3,10 @@ use mathlib.Core.Path.{_≡_, refl, sym, ap, _∙_}
 use native.Mathlib.Omega.{arith}
 use lib.ListN.{length, take, drop, getD, set}
 use borrow.Author.Needs.{needs}
-use Rattle.link.specs.Refusals.{recordsFit}
-use Rattle.link.proofs.Tested.{records-next, records-sensor, records-error, records-done}
-use Rattle.link.proofs.fits_records.Statement.{statement}
-use Rattle.link.proofs.fits_records.Tie as tie
+use Rattle.refusals.specs.Refusals.{recordsFit}
+use Rattle.refusals.proofs.Tested.{records-next, records-sensor, records-error, records-done}
+use Rattle.refusals.proofs.fits_records.Statement.{statement}
+use Rattle.refusals.proofs.fits_records.Tie as tie
 
 abbrev Inv-loop : tie.InvT-loop
 Inv-loop records i₀ i = (i ≤ 8) × (length records ≡ 8) × (recordsFit (drop i records) ≡ recordsFit records)

@@ -15,11 +15,10 @@ use Rattle.frames.specs.Frame.{command, CR, LF, shaped, sumPasses, stationPasse
 use Rattle.journal.specs.Journal.{whole}
 use Rattle.queries.specs.declared.AxisRecord.{AxisRecord}
 use Rattle.queries.specs.Replies.{zeroRecord}
-use Rattle.link.specs.Call.{Call, heldIn}
-use Rattle.link.specs.Refusals.{pointsFit, journalFits, recordsFit, axesFit, silentOf, heardOf, backRefusalOf}
-use Rattle.link.specs.Contract.{frameCall}
-use Rattle.link.specs.Answer.{unchanged, back, backOf}
-use Rattle.link.proofs.Rows.{heard-rows, silent-rows, back-rows}
+use Rattle.refusals.specs.Call.{Call, heldIn}
+use Rattle.refusals.specs.Refusals.{pointsFit, journalFits, recordsFit, axesFit, silentOf, heardOf, backRefusalOf}
+use Rattle.refusals.specs.Call.{frameCall}
+use Rattle.refusals.proofs.Rows.{heard-rows, silent-rows, back-rows}
 
 -- a shaped frame has ten bytes at least
 pub shaped-long : (f : List ℕ) → shaped f ≡ true → 10 ≤ length f
@@ -122,14 +121,6 @@ module _ (c : Call) where
 
         pub back-0 : (c .used ≡ 0 → ⊥) → 0 ≡ backRefusalOf c
         back-0 u = sym (back-rows c ∙ rw (e, eq-eqb _ _ f, g, ne-eqb _ _ u))
-
-pub refused-back : (c : Call) (k : ℕ) → k ≡ backRefusalOf c → (k ≡ 0 → ⊥) → backOf c ≡ unchanged c k []
-unfolding backOf
-refused-back c k e n = rw (← e, ne-eqb k 0 n)
-
-pub accepted-back : (c : Call) → backRefusalOf c ≡ 0 → backOf c ≡ back c
-unfolding backOf
-accepted-back c e = rw e
 
 -- one record more
 module _ (rs : List AxisRecord) (i : ℕ) (h : i < length rs) where
