@@ -78,9 +78,7 @@ fn carry_out(
     ensures { λ r. ⌜ Answers (answerOf (callOf (now (frame .entry)) (now (points .entry)) (now (columns .entry)) (now (journal .entry)) (kept .used) axes settings (now (reply .entry)))) r (now (points .exit)) (now (columns .exit)) (now (journal .exit)) (now (reply .entry)) (now (reply .exit)) ⌝ }
 {
     let n = points.len() / Point::SLOT;
-    let used = kept.used;
     let station = settings.station;
-    let fitted = settings.fitted;
     let records = axes.records;
     let rest = content(frame);
     match asked {
@@ -91,36 +89,30 @@ fn carry_out(
         Asked::CountZero => refuse(reply, station, 105, kept),
         Asked::NotHeld => refuse(reply, station, 106, kept),
         Asked::WrongPattern => refuse(reply, station, 107, kept),
-        Asked::TestCall => accept(reply_same(reply, station, frame, 13), used),
-        Asked::CountPoints => accept(reply_count(reply, station, frame, points, n), used),
+        Asked::TestCall => accept(reply_same(reply, station, frame, 13), kept.used),
+        Asked::CountPoints => accept(reply_count(reply, station, frame, points, n), kept.used),
         Asked::ListPoints { start, count } => {
-            accept(
-                reply_list(reply, station, frame, points, start, count),
-                used,
-            )
+            let long = reply_list(reply, station, frame, points, start, count);
+            accept(long, kept.used)
         }
         Asked::ReadColumns { start, count } => {
-            accept(
-                reply_columns(reply, station, frame, columns, start, count),
-                used,
-            )
+            let long = reply_columns(reply, station, frame, columns, start, count);
+            accept(long, kept.used)
         }
         Asked::AxisStatus { pattern } => {
-            accept(
-                reply_axes(reply, station, frame, pattern & fitted, records),
-                used,
-            )
+            let long = reply_axes(reply, station, frame, pattern & settings.fitted, records);
+            accept(long, kept.used)
         }
         Asked::WritePoints { start, count } => {
-            let left = write_points(points, journal, used, &rest[6..], start, count, n);
+            let left = write_points(points, journal, kept.used, &rest[6..], start, count, n);
             accept(reply_same(reply, station, frame, 9), left)
         }
         Asked::ClearPoints { start, count } => {
-            let left = clear_points(points, journal, used, start, count, n);
+            let left = clear_points(points, journal, kept.used, start, count, n);
             accept(reply_same(reply, station, frame, 3), left)
         }
         Asked::ChangeColumns { start, count } => {
-            let left = change_columns(columns, journal, used, &rest[7..], start, count, n);
+            let left = change_columns(columns, journal, kept.used, &rest[7..], start, count, n);
             accept(reply_same(reply, station, frame, 3), left)
         }
     }

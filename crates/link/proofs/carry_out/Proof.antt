@@ -137,7 +137,7 @@ enum-known-asked-3 c = search needs
 
 reply-axes-requires : tie.Need-reply-axes-requires
 reply-axes-requires c κs =
-    let s = c .before .before .before .before .before .before .before .before .before .before .before in
+    let s = c .before .before .before .before .before .before .before .before .before .before .before .before in
     (board s .reply-long, board s .frame-long)
 
 accept-requires-5 : tie.Need-accept-requires-5
@@ -333,8 +333,8 @@ same-length-15 c = search needs
 
 returns-12 : tie.Need-returns-12
 returns-12 c =
-    let s = c .before .before .before .before .before .before .before .before .before .before .before .before .before .before .before in
-    answered-said (call s) _ _ _ _ (order s _ (c .before .before .before .before .before .before .asked3 .given .1) refl) (c .accept5 .ensures) (c .before .before .before .reply-axes .ensures)
+    let s = c .before .before .before .before .before .before .before .before .before .before .before .before .before .before .before .before in
+    answered-said (call s) _ _ _ _ (order s _ (c .before .before .before .before .before .before .before .asked3 .given .1) refl) (c .accept5 .ensures) (c .before .before .before .reply-axes .ensures)
 
 same-length-16 : tie.Need-same-length-16
 same-length-16 c = search needs
