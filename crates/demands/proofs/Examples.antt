@@ -21,7 +21,8 @@ examples =
       query = refl;
       test-call = refl;
       test-reply = refl;
-      answer = λ c. record { number-is = refl; length-is = refl; used-is = refl; points-are = refl; columns-are = refl; journal-is = refl; reply-is = refl };
+      seven-lent = refl;
+      eight-lent = refl;
       step-back = λ c. record { number-is = refl; used-is = refl; points-are = refl; columns-are = refl; journal-is = refl };
       receive = λ f. record { code-is = refl; start-is = refl; length-is = refl; drop-is = refl };
     }

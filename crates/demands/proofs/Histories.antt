@@ -13,6 +13,7 @@ use Rattle.journal.specs.Journal.{Entry, encode, encodes, kept, added, areaOf, 
 use Rattle.journal.specs.Laws.{AllGood}
 use Rattle.journal.specs.Laws as journal
 use Rattle.journal.proofs.Codec.{length-encode}
+use Rattle.journal.proofs.Walk.{ne-zero}
 use Rattle.journal.proofs.Adding.{encodes-snoc}
 use Rattle.journal.proofs.Again.{good-others}
 use Rattle.journal.proofs.Back.{split-last}
@@ -70,10 +71,6 @@ but-last : (ws : List Sent) (s : Sent) → butLast (ws ++ (s ∷ [])) ≡ ws
 but-last [] s = refl
 but-last (t ∷ []) s = refl
 but-last (t ∷ u ∷ ws) s = ap (λ (r : List Sent). t ∷ r) (but-last (u ∷ ws) s)
-
-positive : (m : ℕ) → (m ≡ 0 → ⊥) → 0 < m
-positive zero k = absurd (k refl)
-positive (suc m) k = omega arith
 
 module _ {n size : ℕ} (b : Bounds n size) where
   -- fresh areas hold no entry
@@ -291,7 +288,7 @@ module _ {n size : ℕ} (b : Bounds n size) where
     es = v .holding
 
     split : es ≡ others es ++ (lastEntry es ∷ [])
-    split = split-last es (positive (length (encodes es)) (λ z. some-used (v .shape) e (v .shape .holds .used ∙ z)))
+    split = split-last es (ne-zero (length (encodes es)) (λ z. some-used (v .shape) e (v .shape .holds .used ∙ z)))
 
     all-made : made ours (fresh n size) (p .standing-writes) ≡ (v .dropped ++ others es) ++ (lastEntry es ∷ [])
     all-made = v .newest-are ∙ ap (λ (x : List Entry). v .dropped ++ x) split ∙ sym (append-assoc (v .dropped) (others es) (lastEntry es ∷ []))

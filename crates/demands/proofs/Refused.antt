@@ -14,6 +14,7 @@ use Rattle.frames.specs.Frame.{contentIn, errorOf, shaped, sumPasses, stationPa
 use Rattle.frames.proofs.Closing.{length-reply}
 use Rattle.messages.specs.declared.Asked.{Asked}
 use Rattle.messages.specs.declared.Asked.the-variants.{UnknownMessage, NotDigits, WrongLength, WrongProgram, CountZero, NotHeld, WrongPattern, TestCall, CountPoints, ListPoints, ReadColumns, AxisStatus, WritePoints, ClearPoints, ChangeColumns}
+use Rattle.messages.proofs.Readiness.{either}
 use Rattle.messages.specs.Layout.{messageOf, isUnknown}
 use Rattle.messages.specs.Asked.{askedOf, notDigits, wrongLength, wrongProgram, countZero, notHeld, wrongPattern}
 use Rattle.refusals.specs.Call.{Call, Outcome, heldIn}
@@ -23,7 +24,7 @@ use Rattle.refusals.proofs.Rows.{three, five, seven, ownOf, saidOf, refusal-row
 use Rattle.link.proofs.Answering.{passed, spoken}
 use Rattle.demands.specs.Refused.{Left, OneNumber, ChangesNothing, OneReply, SameError, ErrorsAgree, writes, QueryChangesNothing}
 
-abbrev asked : Call → Asked
+abbrev pub asked : Call → Asked
 asked c = askedOf (heldIn (c .points)) (c .fitted) (c .frame)
 
 -- an order is done with number 0
@@ -43,11 +44,6 @@ done-number c (AxisStatus p) = refl
 done-number c (WritePoints s k) = refl
 done-number c (ClearPoints s k) = refl
 done-number c (ChangeColumns s k) = refl
-
--- either done or refused
-pub either : (P : Outcome → Type 0) (b : Bool) {x y : Outcome} → (b ≡ true → P x) → (b ≡ false → P y) → P (cond b x y)
-either P true f g = f refl
-either P false f g = g refl
 
 frame-number : (c : Call) → answerOf c .number ≡ refusalOf c
 unfolding answerOf

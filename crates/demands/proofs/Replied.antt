@@ -9,16 +9,13 @@ use Rattle.frames.specs.Frame.{normal, error, errorOf, threeOf, messageIn, cont
 use Rattle.frames.proofs.Promised.{reply}
 use Rattle.messages.specs.declared.Asked.{Asked}
 use Rattle.messages.specs.declared.Asked.the-variants.{UnknownMessage, NotDigits, WrongLength, WrongProgram, CountZero, NotHeld, WrongPattern, TestCall, CountPoints, ListPoints, ReadColumns, AxisStatus, WritePoints, ClearPoints, ChangeColumns}
-use Rattle.messages.specs.Asked.{askedOf}
+use Rattle.messages.proofs.Readiness.{either}
 use Rattle.refusals.specs.Call.{Call, Outcome, heldIn}
 use Rattle.refusals.specs.Refusals.{refusalOf}
 use Rattle.link.specs.Answer.{refused, done, answerOf}
 use Rattle.demands.specs.Refused.{OneNumber}
 use Rattle.demands.specs.Replied.{headerOf, Framed, EveryReply, TestCallBack}
-use Rattle.demands.proofs.Refused.{either, one-number}
-
-abbrev asked : Call → Asked
-asked c = askedOf (heldIn (c .points)) (c .fitted) (c .frame)
+use Rattle.demands.proofs.Refused.{asked, one-number}
 
 closed : (station : ℕ) (rest : List ℕ) → Framed 0 station (replyOf normal station rest)
 closed station rest = record { rest = rest; is = refl; law = reply normal station rest }

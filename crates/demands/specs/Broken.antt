@@ -10,7 +10,7 @@ use Rattle.digits.specs.Text.{text}
 use Rattle.queries.specs.Replies.{zeroRecord}
 use Rattle.refusals.specs.Call.{Call, Outcome}
 use Rattle.link.specs.Answer.{answerOf, backOf}
-use Rattle.demands.specs.History.{Conduct, ours, Areas, fresh, Sent, Event, frame, stepBack, backOn, left, Past, past, entries, EveryHistory}
+use Rattle.demands.specs.History.{Conduct, ours, Areas, fresh, Sent, Event, frame, stepBack, callOn, backOn, left, Past, past, entries, EveryHistory}
 
 -- a frame to station 99H, all eight axes fitted
 abbrev pub send : String → Sent
@@ -63,18 +63,15 @@ pub record Worked : Type 0 where
 -- a call over other areas
 abbrev pub over : Call → Areas → Call
 over c a =
-    record {
+    callOn a
+    (record {
       frame = c .frame;
-      points = a .points;
-      columns = a .columns;
-      journal = a .journal;
-      used = a .used;
       eight = c .eight;
       records = c .records;
       station = c .station;
       fitted = c .fitted;
       reply = c .reply;
-    }
+    })
 
 -- an outcome with other columns
 abbrev pub withColumns : Outcome → List ℕ → Outcome

@@ -3,19 +3,26 @@ use Prim.Native.Nat.{ℕ}
 use mathlib.Core.Path.{_≡_}
 use mathlib.Core.Bool.{false}
 use mathlib.Core.List.{List, []}
-use lib.ListN.{length, replicate}
-use Rattle.digits.specs.Laid.{laid}
+use lib.ListN.{replicate}
 use Rattle.digits.specs.Text.{text}
 use Rattle.finder.specs.declared.Found.{Found}
 use Rattle.finder.specs.Find.{dropOf}
 use Rattle.messages.specs.declared.Asked.the-variants.{TestCall}
 use Rattle.messages.specs.Asked.{askedOf}
-use Rattle.refusals.specs.Call.{Call}
+use Rattle.queries.specs.declared.AxisRecord.{AxisRecord}
+use Rattle.queries.specs.Replies.{zeroRecord}
+use Rattle.lent.specs.Run.{lentAxes}
+use Rattle.refusals.specs.Call.{Call, callOf}
 use Rattle.link.specs.Answer.{answerOf, backOf}
-use Rattle.link.specs.Contract.{Answers, StepsBack}
-use Rattle.board.specs.Calls.{codeOf, startOf, lengthOf, Receives, answeredOf, backedOf}
+use Rattle.link.specs.Contract.{StepsBack}
+use Rattle.board.specs.Calls.{codeOf, startOf, lengthOf, Receives, settingsOf, backedOf}
 use Rattle.demands.specs.Refused.{SameError, writes}
 use Rattle.demands.specs.Cases.{bench, fresh}
+
+-- a 208H to the bench, with its axis records as a lent run
+abbrev pub lentBench : List AxisRecord → Call
+lentBench records =
+    callOf (text "!99208@@\r\n") (replicate 20000 0) fresh (replicate 32768 0) 0 (lentAxes records) (settingsOf 0xFF 0x99) (replicate 1024 0)
 
 pub record Examples : Type 0 where
   -- `ChangesNothing` and `OneReply`: a frame refused with a reply, one without, and a step back with nothing left
@@ -28,10 +35,9 @@ pub record Examples : Type 0 where
   pub query : writes (askedOf 500 0xFF (text "!99208@@\r\n")) ≡ false
   pub test-call : askedOf 500 0xFF (text "!99200001234567829\r\n") ≡ TestCall
   pub test-reply : answerOf (bench fresh (text "!99200001234567829\r\n")) .number ≡ 0
-  -- each contract can be met, for every call: what it says is not too much
-  pub answer :
-      (c : Call)
-      → Answers (answerOf c) (answeredOf (answerOf c .number) (length (answerOf c .text)) (answerOf c .used)) (answerOf c .points) (answerOf c .columns) (answerOf c .journal) (c .reply)
-      (laid (c .reply) 0 (answerOf c .text))
+  -- a lent run of seven records is refusal 5, one of eight is accepted
+  pub seven-lent : answerOf (lentBench (replicate 7 zeroRecord)) .number ≡ 5
+  pub eight-lent : answerOf (lentBench (replicate 8 zeroRecord)) .number ≡ 0
+  -- the other contracts can be met, for every call, as `answer`'s can (`can-be-met` in Useless.antt): what they say is not too much
   pub step-back : (c : Call) → StepsBack (backOf c) (backedOf (backOf c .number) (backOf c .used)) (backOf c .points) (backOf c .columns) (backOf c .journal)
   pub receive : (f : Found) → Receives f (codeOf f) (startOf f) (lengthOf f) (dropOf f)

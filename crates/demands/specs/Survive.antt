@@ -19,6 +19,7 @@ use Rattle.queries.specs.Replies.{joined}
 use Rattle.refusals.specs.Call.{Call, heldIn}
 use Rattle.link.specs.Answer.{answerOf}
 use Rattle.demands.specs.Cases.{bench, fresh}
+use Rattle.demands.specs.History.{callOn, left}
 
 -- a message's frame, accepted; what is lent as the journal is bytes
 pub record Accepted (m : Message) (c : Call) : Type 0 where
@@ -36,18 +37,15 @@ commandOf checked station said = before station said ++ (cond checked (scOf (bef
 -- the call after a call: another frame, over all that the answer left
 abbrev pub nextCall : Call → List ℕ → Call
 nextCall c frame =
-    record {
+    callOn (left (answerOf c))
+    (record {
       frame = frame;
-      points = answerOf c .points;
-      columns = answerOf c .columns;
-      journal = answerOf c .journal;
-      used = answerOf c .used;
       eight = c .eight;
       records = c .records;
       station = c .station;
       fitted = c .fitted;
       reply = laid (c .reply) 0 (answerOf c .text);
-    }
+    })
 
 -- asked after a call, with a true SC and with '@@', the board accepts and says
 pub record Says (c : Call) (asked said : List ℕ) : Type 0 where

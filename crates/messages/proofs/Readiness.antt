@@ -53,7 +53,8 @@ Ready n c (WritePoints s k) = (6 ≤ length c) × (allDigits c ≡ true) × (fil
 Ready n c (ClearPoints s k) = (1 ≤ k) × (holds (pointsOf n) s k ≡ true)
 Ready n c (ChangeColumns s k) = (length c ≡ 7 + 2 * k) × (allDigits c ≡ true) × (1 ≤ k) × (k ≤ 255) × (holds columnsOf s k ≡ true)
 
-either : (P : Asked → Type 0) (b : Bool) {x y : Asked} → (b ≡ true → P x) → (b ≡ false → P y) → P (cond b x y)
+-- of a choice, from what is known on either side
+pub either : {A : Type 0} (P : A → Type 0) (b : Bool) {x y : A} → (b ≡ true → P x) → (b ≡ false → P y) → P (cond b x y)
 either P true f g = f refl
 either P false f g = g refl
 

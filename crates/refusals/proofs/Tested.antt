@@ -13,6 +13,7 @@ use borrow.Author.Tests.{leb-true, ltb-false, eqb-true, eqb-false, lt-ltb, le-lt
 use Rattle.digits.proofs.Inverse.{and-left, and-right}
 use Rattle.frames.specs.Frame.{command, CR, LF, shaped, sumPasses, stationPasses}
 use Rattle.journal.specs.Journal.{whole}
+use Rattle.journal.proofs.Walk.{ne-zero}
 use Rattle.queries.specs.declared.AxisRecord.{AxisRecord}
 use Rattle.queries.specs.Replies.{zeroRecord}
 use Rattle.refusals.specs.Call.{Call, heldIn}
@@ -81,10 +82,6 @@ pub record CanStepBack (c : Call) : Type 0 where
   pub journal : Journal (heldIn (c .points)) (c .journal) (c .used)
   pub used : 0 < c .used
 
-positive : (n : ℕ) → eqb n 0 ≡ false → 0 < n
-positive zero e = absurd (eqb-false 0 0 e refl)
-positive (suc n) e = omega arith
-
 pub can-step-back : (c : Call) → backRefusalOf c ≡ 0 → CanStepBack c
 can-step-back c e = go (not (pointsFit (c .points))) refl (not (eqb (length (c .columns)) 700)) refl (not (journalFits (heldIn (c .points)) (c .journal) (c .used))) refl (eqb (c .used) 0) refl (sym (back-rows c) ∙ e)
   where
@@ -99,7 +96,7 @@ can-step-back c e = go (not (pointsFit (c .points))) refl (not (eqb (length (c .
           points = points-fit (c .points) (not-false (pointsFit (c .points)) (ep ∙ a .0));
           columns = eqb-true _ _ (not-false (eqb (length (c .columns)) 700) (eq ∙ b .0));
           journal = journal-fits (heldIn (c .points)) (c .journal) (c .used) (not-false (journalFits (heldIn (c .points)) (c .journal) (c .used)) (er ∙ d .0));
-          used = positive (c .used) (es ∙ f .0);
+          used = ne-zero (c .used) (eqb-false _ _ (es ∙ f .0));
         }
 
 -- each return of the step back's tests

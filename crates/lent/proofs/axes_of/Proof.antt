@@ -1,4 +1,4 @@
--- `link::axes_of` meets its contract: a walk of its MIR, by hand, of a test and two calls. All that it knows of `no_axes` and of `eight_of` is that each meets its contract.
+-- `lent::axes_of` meets its contract: a walk of its MIR, by hand, of a test and two calls. All that it knows of `no_axes` and of `eight_of` is that each meets its contract.
 -- Assumes nothing.
 use mathlib.Core.Path.{_≡_, refl, _∙_}
 use mathlib.Core.Bool.{true, false}
