@@ -1,4 +1,4 @@
-# The two commands are `make run` and `make test`. What they need is on the machine: rt, cargo, a C compiler.
+# The two commands are `make run` and `make test`. `make run` needs rt alone; what else the tests need `make tools` installs.
 SHELL := /bin/bash
 .SHELLFLAGS := -eu -o pipefail -c
 .ONESHELL:
@@ -10,26 +10,34 @@ ARCHIVE := target/staticlib/libboard.a
 # host/plain.c under the archive's names
 AS_ARCHIVE := -Dplain_receive=cabinet_receive -Dplain_answer=cabinet_answer -Dplain_step_back=cabinet_step_back
 
-# The product is x86-64 code. On another processor it's linked by a cross compiler and run by the toolchain's emulator.
-ifeq ($(shell uname -m),x86_64)
+# rt says where its toolchain is. Asked only where it is needed: the other targets run without rt.
+MACHINE := $(shell uname -m)
+TOOLCHAIN = $(abspath $(dir $(shell rt doc))..)/on/$(MACHINE)/toolchain
+comma := ,
+
+# a command that the tests need, and the Debian package that has it
+TOOLS := gcc:gcc g++:g++ cargo:cargo rustc:rustc
+
+# The product is x86-64 code. On another processor it's linked by a cross compiler and run by the toolchain's emulator; valgrind doesn't run it there.
+ifeq ($(MACHINE),x86_64)
   X86CC := gcc
   X86 :=
+  CHECKED := valgrind --quiet --error-exitcode=1
+  TOOLS += valgrind:valgrind
 else
   X86CC := x86_64-linux-gnu-gcc
-  X86 := /opt/rattle/on/$(shell uname -m)/toolchain/bin/qemu-x86_64
+  X86 = $(TOOLCHAIN)/bin/qemu-x86_64
+  CHECKED = $(X86)
+  TOOLS += x86_64-linux-gnu-gcc:gcc-x86-64-linux-gnu
 endif
-KIT := /opt/rattle/on/$(shell uname -m)/toolchain/lib
-comma := ,
-# under valgrind where it can be: it doesn't run the other processor's code
-CHECKED := $(if $(X86),$(X86),valgrind --quiet --error-exitcode=1)
 
 # the bench program: frames from standard input, replies to standard output
 run:
-	rt check bench > /dev/null
-	exec $(X86) $(KIT)/ld-linux-x86-64.so.2 --library-path $(KIT) target/bin/bench
+	.ci/prove check bench
+	exec $(X86) $(TOOLCHAIN)/lib/ld-linux-x86-64.so.2 --library-path $(TOOLCHAIN)/lib target/bin/bench
 
 # rt ci first, from nothing; then the tests outside it, which prove nothing again. rt ci's last line is printed last, and only where all passed.
-test:
+test: tools
 	log=$$(mktemp)
 	trap 'rm -f "$$log"' EXIT
 	rt ci | tee "$$log"
@@ -39,27 +47,36 @@ test:
 	echo "$$last"
 
 # the independent second program's own tests
-second:
+second: tools
 	cargo test --quiet --offline --manifest-path second/Cargo.toml --target-dir target/second
 
 # include/cabinet.h as C99 and as C++
-header:
+header: tools
 	gcc -std=c99 $(STRICT) -fsyntax-only host/compile_header.c
 	g++ -std=c++11 $(STRICT) -fsyntax-only host/compile_header.cpp
 
+# installs what is missing, as root, and prints the command that does it; where all is there it prints nothing
 tools:
-	command -v $(X86CC) > /dev/null || { apt-get update -qq && apt-get install -y -qq gcc-x86-64-linux-gnu > /dev/null; }
+	missing=()
+	for tool in $(TOOLS); do
+	    command -v "$${tool%%:*}" > /dev/null || missing+=("$${tool#*:}")
+	done
+	if (( $${#missing[@]} > 0 )); then
+	    install="apt-get update -qq && DEBIAN_FRONTEND=noninteractive apt-get install -y -qq $${missing[*]}"
+	    echo "$$install" >&2
+	    bash -c "$$install" >&2
+	fi
 
 archive:
-	rt staticlib board > /dev/null
+	.ci/prove staticlib board
 	mkdir -p target/host
 
 # the cases of crates/vectors and what the second program says of them, written anew
-vectors:
+vectors: tools
 	cargo run --quiet --offline --release --manifest-path second/Cargo.toml --target-dir target/second --bin vectors -- crates/vectors
 
 # the stored cases are what the second program writes
-stored:
+stored: tools
 	cargo run --quiet --offline --release --manifest-path second/Cargo.toml --target-dir target/second --bin vectors -- target/vectors
 	cmp target/vectors/stdin crates/vectors/stdin
 	cmp target/vectors/stdout crates/vectors/stdout
