@@ -18,14 +18,15 @@ comma := ,
 # a command that the tests need, and the Debian package that has it
 TOOLS := gcc:gcc g++:g++ cargo:cargo rustc:rustc
 
-# The product is x86-64 code. On another processor it's linked by a cross compiler and run by the toolchain's emulator; valgrind doesn't run it there.
+# The product is x86-64 code. On another processor it's linked by a cross compiler, static since the emulator has no C library of that kind to load,
+# and run by the toolchain's emulator; valgrind doesn't run it there. Here it isn't static: valgrind finds fault with a static C library's own start.
 ifeq ($(MACHINE),x86_64)
   X86CC := gcc
   X86 :=
   CHECKED := valgrind --quiet --error-exitcode=1
   TOOLS += valgrind:valgrind
 else
-  X86CC := x86_64-linux-gnu-gcc
+  X86CC := x86_64-linux-gnu-gcc -static
   X86 = $(TOOLCHAIN)/bin/qemu-x86_64
   CHECKED = $(X86)
   TOOLS += x86_64-linux-gnu-gcc:gcc-x86-64-linux-gnu
@@ -83,17 +84,17 @@ stored: tools
 
 # the archive: the bench listing in pieces of every length, the README's ten lines, then every vector
 host: tools archive
-	$(X86CC) -std=c99 -O2 -static $(STRICT) host/bench_listing.c $(ARCHIVE) -o target/host/bench_listing
+	$(X86CC) -std=c99 -O2 $(STRICT) host/bench_listing.c $(ARCHIVE) -o target/host/bench_listing
 	$(CHECKED) target/host/bench_listing
-	$(X86CC) -std=c99 -O2 -static $(STRICT) host/first_host.c $(ARCHIVE) -o target/host/first_host
+	$(X86CC) -std=c99 -O2 $(STRICT) host/first_host.c $(ARCHIVE) -o target/host/first_host
 	$(X86) target/host/first_host | cmp - <(printf '#9920000123456782B\r\n')
-	$(X86CC) -std=c99 -O2 -static $(STRICT) host/play_vectors.c $(ARCHIVE) -o target/host/play_vectors
+	$(X86CC) -std=c99 -O2 $(STRICT) host/play_vectors.c $(ARCHIVE) -o target/host/play_vectors
 	$(X86) target/host/play_vectors < crates/vectors/stdin | cmp - crates/vectors/stdout
 	echo "vectors: $$(wc -l < crates/vectors/stdout) calls as the second program says"
 
 # drawn calls compared with the second program, every byte of every area after each; DIFFERENTIAL_CALLS=N and DIFFERENTIAL_SEED=N for others
 differential: tools archive
-	$(X86CC) -std=c99 -O2 -static $(STRICT) host/play_calls.c $(ARCHIVE) -o target/host/play_calls
+	$(X86CC) -std=c99 -O2 $(STRICT) host/play_calls.c $(ARCHIVE) -o target/host/play_calls
 	PLAYER="$(X86) target/host/play_calls" cargo run --quiet --offline --release --manifest-path second/Cargo.toml --target-dir target/second --bin differential
 
 # the archive's time beside host/plain.c's, which is compared first as the archive is. The emulator runs `rep stosb`, the C library's way to fill
@@ -101,6 +102,6 @@ differential: tools archive
 benchmark: tools archive
 	gcc -std=c99 -O2 $(STRICT) $(AS_ARCHIVE) host/play_calls.c host/plain.c -o target/host/play_plain
 	PLAYER="target/host/play_plain" cargo run --quiet --offline --release --manifest-path second/Cargo.toml --target-dir target/second --bin differential | tail -n 1
-	$(X86CC) -std=c99 -O2 -static $(STRICT) host/benchmark.c host/plain.c $(ARCHIVE) -o target/host/benchmark
+	$(X86CC) -std=c99 -O2 $(STRICT) host/benchmark.c host/plain.c $(ARCHIVE) -o target/host/benchmark
 	echo "$$(lscpu | sed -n 's/^Model name: *//p')$(if $(X86),$(comma) x86-64 code under the emulator)"
 	QEMU_CPU=max,-erms $(X86) target/host/benchmark
