@@ -51,10 +51,11 @@ test: tools
 second: tools
 	cargo test --quiet --offline --manifest-path second/Cargo.toml --target-dir target/second
 
-# include/cabinet.h as C99 and as C++
+# include/cabinet.h as C99 and as C++, and the loop that its comment shows, taken from there
 header: tools
 	gcc -std=c99 $(STRICT) -fsyntax-only host/compile_header.c
 	g++ -std=c++11 $(STRICT) -fsyntax-only host/compile_header.cpp
+	sed -n "/A HOST'S LOOP/,/^ \*\//s/^ \*   //p" include/cabinet.h | gcc -std=c99 $(STRICT) -fsyntax-only -x c -
 
 # installs what is missing, as root, and prints the command that does it; where all is there it prints nothing
 tools:

@@ -9,7 +9,7 @@
 #include <stdio.h>
 #include <string.h>
 
-enum { POINTS_HELD = 500, JOURNAL = 32768, STATION = 0x99, FITTED = 0xFF, GUARD = 0xEE };
+enum { POINTS_HELD = 500, JOURNAL_BYTES = 32768, STATION = 0x99, FITTED = 0xFF, GUARD = 0xEE };
 
 static const char input[] = "!99200001234567829\r\n"
                             "!9924400100103001E001E00640000C350FFFFFFFFF3\r\n"
@@ -17,21 +17,22 @@ static const char input[] = "!99200001234567829\r\n"
 static const char output[] = "#9920000123456782B\r\n#9924400100151\r\n&991012A\r\n";
 
 /* Point 1 after the second frame: axes 1 and 2, 0.30 G both, 100 mm/sec, 50.000 and -0.001 mm. */
-static const uint8_t point_1[CABINET_SLOT] = {0x03, 0, 0, 30, 0, 30, 0, 100,
-                                              0x00, 0x00, 0xC3, 0x50, 0xFF, 0xFF, 0xFF, 0xFF};
+static const uint8_t point_1[CABINET_SLOT_BYTES] = {0x03, 0, 0, 30, 0, 30, 0, 100,
+                                                    0x00, 0x00, 0xC3, 0x50, 0xFF, 0xFF, 0xFF, 0xFF};
 
 /* The entry of the second frame: tag, length 2+40, start 1, and the old slot, which was zero. */
 static const uint8_t entry[5] = {0x50, 0, 42, 0, 1};
 
-static uint8_t points[CABINET_SLOT * POINTS_HELD];
-static uint8_t columns[CABINET_COLUMNS];
-static uint8_t journal[JOURNAL];
-static uint8_t axes[CABINET_AXES];
-static uint8_t reply[CABINET_REPLY];
-static size_t used;
+static uint8_t points[CABINET_POINTS_BYTES(POINTS_HELD)];
+static uint8_t journal[JOURNAL_BYTES];
+static struct cabinet board = {
+    .points = points, .points_length = sizeof points,
+    .journal = journal, .journal_length = sizeof journal,
+    .fitted = FITTED, .station = STATION
+};
 
 /* Received and not yet dropped; the replies so far. */
-static uint8_t line[CABINET_LONGEST_FRAME];
+static uint8_t line[CABINET_LONGEST_FRAME_BYTES];
 static size_t held;
 static uint8_t sent[256];
 static size_t sent_length;
@@ -58,35 +59,32 @@ static int is_then_zero(const uint8_t *area, size_t area_length, const uint8_t *
 static int areas_are(int written)
 {
     return is_then_zero(points, sizeof points, point_1, written ? sizeof point_1 : 0) &&
-           is_then_zero(columns, sizeof columns, columns, 0) &&
+           is_then_zero(board.columns, sizeof board.columns, board.columns, 0) &&
            is_then_zero(journal, sizeof journal, entry, written ? sizeof entry : 0) &&
-           is_then_zero(axes, sizeof axes, axes, 0) && used == (written ? 45u : 0u);
+           is_then_zero(board.axes, sizeof board.axes, board.axes, 0) && board.used == (written ? 45u : 0u);
 }
 
 static void start_fresh(void)
 {
     memset(points, 0, sizeof points);
-    memset(columns, 0, sizeof columns);
     memset(journal, 0, sizeof journal);
-    memset(axes, 0, sizeof axes);
-    used = 0;
+    memset(board.columns, 0, sizeof board.columns);
+    memset(board.axes, 0, sizeof board.axes);
+    board.used = 0;
     held = 0;
     sent_length = 0;
 }
 
-/* Answers one frame; the reply stands at the front of the reply area, and nothing beyond it. */
-static uint16_t answer(const uint8_t *frame, size_t length, size_t *reply_length)
+/* Answers one frame; whether the reply stands at the front of the reply area, and nothing beyond it. */
+static int answer(const uint8_t *frame, size_t length, uint16_t *number)
 {
-    uint16_t number;
     size_t i;
-    memset(reply, GUARD, sizeof reply);
-    number = cabinet_answer(frame, length, points, sizeof points, columns, sizeof columns,
-                            journal, sizeof journal, &used, axes, sizeof axes, FITTED, STATION,
-                            reply, sizeof reply, reply_length);
-    for (i = *reply_length; i < sizeof reply; i++)
-        if (reply[i] != GUARD)
-            *reply_length = sizeof reply + 1; /* no reply is so long */
-    return number;
+    memset(board.reply, GUARD, sizeof board.reply);
+    *number = cabinet_answer_frame(&board, frame, length);
+    for (i = board.reply_length; i < sizeof board.reply; i++)
+        if (board.reply[i] != GUARD)
+            return 0;
+    return board.reply_length <= sizeof board.reply;
 }
 
 /* Takes more bytes from the line and answers every frame that is whole; 0 where something is wrong. */
@@ -96,18 +94,18 @@ static int receive(const uint8_t *bytes, size_t count)
     memcpy(line + held, bytes, count);
     held += count;
     do {
-        size_t start, length, drop, reply_length;
+        size_t start, length, drop;
+        uint16_t number;
         found = cabinet_receive(line, held, &start, &length, &drop);
         if (drop > held || (found != CABINET_FRAME && (start != 0 || length != 0)))
             return 0;
         if (found == CABINET_FRAME) {
             if (start + length != drop)
                 return 0;
-            answer(line + start, length, &reply_length);
-            if (reply_length > sizeof sent - sent_length)
+            if (!answer(line + start, length, &number) || board.reply_length > sizeof sent - sent_length)
                 return 0;
-            memcpy(sent + sent_length, reply, reply_length);
-            sent_length += reply_length;
+            memcpy(sent + sent_length, board.reply, board.reply_length);
+            sent_length += board.reply_length;
         }
         held -= drop;
         memmove(line, line + drop, held);
@@ -116,17 +114,17 @@ static int receive(const uint8_t *bytes, size_t count)
 }
 
 /* One command whose whole reply and number are known. */
-static int answers(const char *command, uint16_t number, const char *expected)
+static int answers(const char *command, enum cabinet_refusal number, const char *expected)
 {
-    size_t length;
-    uint16_t given = answer((const uint8_t *)command, strlen(command), &length);
-    return given == number && length == strlen(expected) && memcmp(reply, expected, length) == 0;
+    uint16_t given;
+    return answer((const uint8_t *)command, strlen(command), &given) && given == number &&
+           board.reply_length == strlen(expected) && memcmp(board.reply, expected, board.reply_length) == 0;
 }
 
-static int step_back(void)
+/* One step back whose number is known; it has no reply. */
+static int steps_back(enum cabinet_refusal number)
 {
-    return cabinet_step_back(points, sizeof points, columns, sizeof columns,
-                             journal, sizeof journal, &used);
+    return cabinet_take_back(&board) == number && board.reply_length == 0;
 }
 
 /* The whole listing in pieces of one length, then the step back and the queries. */
@@ -143,15 +141,16 @@ static int play(size_t piece)
         return failed("output", piece);
     if (!areas_are(1))
         return failed("areas after the listing", piece);
-    if (!answers("!9920900100555\r\n", 7, "") || !areas_are(1))
+    if (!answers("!9920900100555\r\n", CABINET_REFUSED_SC, "") || !areas_are(1))
         return failed("wrong SC", piece);
-    if (!answers("!99209001005@@\r\n", 0, "#9920900100103001E001E00640000C350FFFFFFFFF6\r\n"))
+    if (!answers("!99209001005@@\r\n", CABINET_ACCEPTED,
+                 "#9920900100103001E001E00640000C350FFFFFFFFF6\r\n"))
         return failed("query before the step back", piece);
-    if (step_back() != 0 || !areas_are(0))
+    if (!steps_back(CABINET_ACCEPTED) || !areas_are(0))
         return failed("step back", piece);
-    if (!answers("!9920900100554\r\n", 0, "#99209000C0\r\n") || !areas_are(0))
+    if (!answers("!9920900100554\r\n", CABINET_ACCEPTED, "#99209000C0\r\n") || !areas_are(0))
         return failed("query after the step back", piece);
-    if (step_back() != 9 || !areas_are(0))
+    if (!steps_back(CABINET_REFUSED_NO_WRITE_LEFT) || !areas_are(0))
         return failed("step back with nothing left", piece);
     return 0;
 }

@@ -49,10 +49,10 @@ struct board {
     size_t used;
     size_t reply_length;
     size_t start, length, drop;
-    uint8_t points[CABINET_SLOT * CABINET_MOST_POINTS];
-    uint8_t columns[CABINET_COLUMNS];
-    uint8_t journal[CABINET_MOST_JOURNAL];
-    uint8_t reply[CABINET_REPLY];
+    uint8_t points[CABINET_POINTS_BYTES(CABINET_MOST_POINTS)];
+    uint8_t columns[CABINET_COLUMNS_BYTES];
+    uint8_t journal[CABINET_MOST_JOURNAL_BYTES];
+    uint8_t reply[CABINET_REPLY_BYTES];
 };
 
 enum kind { ANSWER, STEP_BACK, RECEIVE };
@@ -62,7 +62,7 @@ static struct {
     enum kind kind;
     size_t held; /* N */
     size_t journal_length;
-    uint8_t axes[CABINET_AXES];
+    uint8_t axes[CABINET_AXES_BYTES];
     uint8_t handed[RECEIVED]; /* the frame, or the received bytes */
     size_t handed_length;
     size_t last;    /* where the last entry begins */
@@ -81,12 +81,14 @@ static void fail(const char *why)
 static unsigned make_call(const struct calls *calls)
 {
     if (trial.kind == ANSWER)
-        return calls->answer(trial.handed, trial.handed_length, work.points, CABINET_SLOT * trial.held,
-                             work.columns, CABINET_COLUMNS, work.journal, trial.journal_length,
-                             &work.used, trial.axes, CABINET_AXES, FITTED, STATION,
-                             work.reply, CABINET_REPLY, &work.reply_length);
+        return calls->answer(trial.handed, trial.handed_length, work.points,
+                             CABINET_POINTS_BYTES(trial.held), work.columns, CABINET_COLUMNS_BYTES,
+                             work.journal, trial.journal_length, &work.used,
+                             trial.axes, CABINET_AXES_BYTES, FITTED, STATION,
+                             work.reply, CABINET_REPLY_BYTES, &work.reply_length);
     if (trial.kind == STEP_BACK)
-        return calls->step_back(work.points, CABINET_SLOT * trial.held, work.columns, CABINET_COLUMNS,
+        return calls->step_back(work.points, CABINET_POINTS_BYTES(trial.held),
+                                work.columns, CABINET_COLUMNS_BYTES,
                                 work.journal, trial.journal_length, &work.used);
     return calls->receive(trial.handed, trial.handed_length, &work.start, &work.length, &work.drop);
 }
@@ -124,9 +126,9 @@ static void draw_points(size_t every)
     size_t i;
     memset(built.points, 0, sizeof built.points);
     for (i = every - 1; i < trial.held; i += every) {
-        draw(built.points + CABINET_SLOT * i, CABINET_SLOT);
-        built.points[CABINET_SLOT * i] = FITTED;
-        built.points[CABINET_SLOT * i + 1] = 0;
+        draw(built.points + CABINET_SLOT_BYTES * i, CABINET_SLOT_BYTES);
+        built.points[CABINET_SLOT_BYTES * i] = FITTED;
+        built.points[CABINET_SLOT_BYTES * i + 1] = 0;
     }
 }
 
@@ -134,8 +136,8 @@ static void draw_points(size_t every)
 static void draw_axes(void)
 {
     size_t at;
-    draw(trial.axes, CABINET_AXES);
-    for (at = 0; at < CABINET_AXES; at += 9) {
+    draw(trial.axes, CABINET_AXES_BYTES);
+    for (at = 0; at < CABINET_AXES_BYTES; at += CABINET_RECORD_BYTES) {
         trial.axes[at + 1] &= 15;
         trial.axes[at + 2] &= 15;
     }
@@ -147,13 +149,13 @@ static void begin(const char *name, size_t held)
     snprintf(trial.name, sizeof trial.name, "%s", name);
     trial.kind = ANSWER;
     trial.held = held;
-    trial.journal_length = held > 500 ? CABINET_MOST_JOURNAL : 32768;
+    trial.journal_length = held > 500 ? CABINET_MOST_JOURNAL_BYTES : 32768;
     trial.handed_length = 0;
     trial.last = 0;
-    trial.changed = CABINET_MOST_JOURNAL; /* none of it */
+    trial.changed = CABINET_MOST_JOURNAL_BYTES; /* none of it */
     memset(&built, 0, sizeof built);
-    memset(built.reply, 0xEE, CABINET_REPLY);
-    draw(built.columns, CABINET_COLUMNS);
+    memset(built.reply, 0xEE, CABINET_REPLY_BYTES);
+    draw(built.columns, CABINET_COLUMNS_BYTES);
     draw_points(1);
     draw_axes();
 }
@@ -378,7 +380,7 @@ static void run_back(void)
 {
     trial.kind = STEP_BACK;
     trial.changed = trial.last;
-    run(0, 0);
+    run(CABINET_ACCEPTED, 0);
 }
 
 /* ---- the trials: queries, with an empty journal ---- */
@@ -387,14 +389,14 @@ static void test_call(size_t held)
 {
     begin("200H", held);
     say("!992000012345678");
-    run_frame(0, 20);
+    run_frame(CABINET_ACCEPTED, 20);
 }
 
 static void point_count(size_t held)
 {
     begin("208H", held);
     say("!99208");
-    run_frame(0, 13);
+    run_frame(CABINET_ACCEPTED, 13);
 }
 
 static void full_list(size_t held)
@@ -402,7 +404,7 @@ static void full_list(size_t held)
     begin("209H, 12 eight-axis points, the first ones", held);
     say("!99209001");
     say_number(held, 3);
-    run_frame(0, 985);
+    run_frame(CABINET_ACCEPTED, 985);
 }
 
 /* To find them all slots are looked at. */
@@ -412,21 +414,21 @@ static void sparse_list(size_t held)
     draw_points(held / 12);
     say("!99209001");
     say_number(held, 3);
-    run_frame(0, 985);
+    run_frame(CABINET_ACCEPTED, 985);
 }
 
 static void column_query(size_t held)
 {
     begin("210H, 255 columns", held);
     say("!992100012CFF");
-    run_frame(0, 527);
+    run_frame(CABINET_ACCEPTED, 527);
 }
 
 static void axis_status(size_t held)
 {
     begin("212H, 8 axes", held);
     say("!99212FF");
-    run_frame(0, 140);
+    run_frame(CABINET_ACCEPTED, 140);
 }
 
 /* ---- writes into an empty journal: most of it becomes 00 each time ---- */
@@ -435,21 +437,21 @@ static void write_point(size_t held)
 {
     begin("244H, 1 eight-axis point", held);
     say_points(7, 1);
-    run_frame(0, 16);
+    run_frame(CABINET_ACCEPTED, 16);
 }
 
 static void write_points(size_t held)
 {
     begin("244H, 12 eight-axis points", held);
     say_points(7, 12);
-    run_frame(0, 16);
+    run_frame(CABINET_ACCEPTED, 16);
 }
 
 static void clear_points(size_t held)
 {
     begin("246H, 12 points", held);
     say("!9924600700C");
-    run_frame(0, 10);
+    run_frame(CABINET_ACCEPTED, 10);
 }
 
 static void clear_all(size_t held)
@@ -457,7 +459,7 @@ static void clear_all(size_t held)
     begin("246H, all points", held);
     say("!99246001");
     say_number(held, 3);
-    run_frame(0, 10);
+    run_frame(CABINET_ACCEPTED, 10);
 }
 
 static void write_columns(size_t held)
@@ -465,7 +467,7 @@ static void write_columns(size_t held)
     begin("24EH, 255 columns", held);
     say("!9924E0012CFF");
     say_drawn(255);
-    run_frame(0, 10);
+    run_frame(CABINET_ACCEPTED, 10);
 }
 
 /* ---- refused frames ---- */
@@ -475,14 +477,14 @@ static void wrong_sum(size_t held)
     begin("refused 7: 244H, 12 points, wrong SC", held);
     say_points(7, 12);
     close_frame(0, 1);
-    run(7, 0);
+    run(CABINET_REFUSED_SC, 0);
 }
 
 static void unknown_message(size_t held)
 {
     begin("refused 101: unknown message", held);
     say("!99299");
-    run_frame(101, 10);
+    run_frame(CABINET_REFUSED_MESSAGE, CABINET_ERROR_REPLY_BYTES);
 }
 
 static void not_held(size_t held)
@@ -490,7 +492,7 @@ static void not_held(size_t held)
     begin("refused 106: 209H beyond N", held);
     say("!99209001");
     say_number(held + 1, 3);
-    run_frame(106, 10);
+    run_frame(CABINET_REFUSED_NOT_HELD, CABINET_ERROR_REPLY_BYTES);
 }
 
 static void wrong_pattern(size_t held)
@@ -499,7 +501,7 @@ static void wrong_pattern(size_t held)
     say_points(7, 11);
     memcpy(trial.handed + 9, "00C", 3);
     say_point(0);
-    run_frame(107, 10);
+    run_frame(CABINET_REFUSED_PATTERN, CABINET_ERROR_REPLY_BYTES);
 }
 
 /* ---- calls with entries in the journal ---- */
@@ -507,25 +509,25 @@ static void wrong_pattern(size_t held)
 static void write_points_half_full(size_t held)
 {
     begin("244H, 12 points, journal half full of such", held);
-    fill_journal(trial.journal_length / 2, POINTS_TAG, 7, 12 * CABINET_SLOT);
+    fill_journal(trial.journal_length / 2, POINTS_TAG, 7, 12 * CABINET_SLOT_BYTES);
     say_points(7, 12);
-    run_frame(0, 16);
+    run_frame(CABINET_ACCEPTED, 16);
 }
 
 static void write_column_half_full(size_t held)
 {
     begin("24EH, 1 column, journal half full of 12-point entries", held);
-    fill_journal(trial.journal_length / 2, POINTS_TAG, 7, 12 * CABINET_SLOT);
+    fill_journal(trial.journal_length / 2, POINTS_TAG, 7, 12 * CABINET_SLOT_BYTES);
     say("!9924E0012C0137");
-    run_frame(0, 10);
+    run_frame(CABINET_ACCEPTED, 10);
 }
 
 static void write_points_full(size_t held)
 {
     begin("244H, 12 points, journal full of such, 1 entry dropped", held);
-    fill_journal(trial.journal_length, POINTS_TAG, 7, 12 * CABINET_SLOT);
+    fill_journal(trial.journal_length, POINTS_TAG, 7, 12 * CABINET_SLOT_BYTES);
     say_points(7, 12);
-    run_frame(0, 16);
+    run_frame(CABINET_ACCEPTED, 16);
 }
 
 /* The most entries that a journal can hold: each call looks at all of them. */
@@ -534,7 +536,7 @@ static void write_column_full(size_t held)
     begin("24EH, 1 column, journal full of such, 1 entry dropped", held);
     fill_journal(trial.journal_length, COLUMNS_TAG, 300, 1);
     say("!9924E0012C0137");
-    run_frame(0, 10);
+    run_frame(CABINET_ACCEPTED, 10);
 }
 
 static void clear_full_of_columns(size_t held)
@@ -543,7 +545,7 @@ static void clear_full_of_columns(size_t held)
     fill_journal(trial.journal_length, COLUMNS_TAG, 300, 1);
     trial.changed = 0;
     say("!9924600700C");
-    run_frame(0, 10);
+    run_frame(CABINET_ACCEPTED, 10);
 }
 
 static void test_call_full_of_columns(size_t held)
@@ -551,7 +553,7 @@ static void test_call_full_of_columns(size_t held)
     begin("200H, journal full of 1-column entries", held);
     fill_journal(trial.journal_length, COLUMNS_TAG, 300, 1);
     say("!992000012345678");
-    run_frame(0, 20);
+    run_frame(CABINET_ACCEPTED, 20);
 }
 
 /* ---- steps back ---- */
@@ -559,14 +561,14 @@ static void test_call_full_of_columns(size_t held)
 static void back_to_empty(size_t held)
 {
     begin("step back, 12 points, the only entry", held);
-    add_entry(POINTS_TAG, 7, 12 * CABINET_SLOT);
+    add_entry(POINTS_TAG, 7, 12 * CABINET_SLOT_BYTES);
     run_back();
 }
 
 static void back_from_full(size_t held)
 {
     begin("step back, 12 points, journal full of such", held);
-    fill_journal(trial.journal_length, POINTS_TAG, 7, 12 * CABINET_SLOT);
+    fill_journal(trial.journal_length, POINTS_TAG, 7, 12 * CABINET_SLOT_BYTES);
     run_back();
 }
 
@@ -608,7 +610,7 @@ static void find_short(void)
 
 static void find_longest(void)
 {
-    size_t from = RECEIVED - CABINET_LONGEST_FRAME;
+    size_t from = RECEIVED - CABINET_LONGEST_FRAME_BYTES;
     begin_received("finder, 3,073 bytes, then a frame of 1,023", from);
     say("!99244001001");
     while (trial.handed_length < RECEIVED - 4)

@@ -2,22 +2,56 @@
 #include "cabinet.h"
 #include "cabinet.h"
 
+#if CABINET_VERSION < 1
+#error "an older cabinet.h"
+#endif
+
 typedef uint8_t receive_call(const uint8_t *, size_t, size_t *, size_t *, size_t *);
 typedef uint16_t answer_call(const uint8_t *, size_t, uint8_t *, size_t, uint8_t *, size_t,
                              uint8_t *, size_t, size_t *, const uint8_t *, size_t,
                              uint8_t, uint8_t, uint8_t *, size_t, size_t *);
 typedef uint16_t step_back_call(uint8_t *, size_t, uint8_t *, size_t, uint8_t *, size_t, size_t *);
+typedef uint16_t answer_frame_call(struct cabinet *, const uint8_t *, size_t);
+typedef uint16_t take_back_call(struct cabinet *);
 
 struct calls {
     receive_call *receive;
     answer_call *answer;
     step_back_call *step_back;
+    answer_frame_call *answer_frame;
+    take_back_call *take_back;
 };
 
 extern const struct calls declared_calls;
-const struct calls declared_calls = {cabinet_receive, cabinet_answer, cabinet_step_back};
+const struct calls declared_calls = {cabinet_receive, cabinet_answer, cabinet_step_back,
+                                     cabinet_answer_frame, cabinet_take_back};
 
-/* The lengths of document 01: an array of -1 bytes would not compile. */
+/* A board is set up from zero, field by field, and its calls' numbers are compared by name. */
+int host_in_both_languages(const uint8_t *frame, size_t frame_length);
+int host_in_both_languages(const uint8_t *frame, size_t frame_length)
+{
+    static uint8_t points[CABINET_POINTS_BYTES(1)], journal[CABINET_LEAST_JOURNAL_BYTES(1)];
+    static struct cabinet board;
+    board.points = points;
+    board.points_length = sizeof points;
+    board.journal = journal;
+    board.journal_length = sizeof journal;
+    board.fitted = 0xFF;
+    board.station = 0x99;
+    if (cabinet_answer_frame(&board, frame, frame_length) != CABINET_ACCEPTED)
+        return 0;
+    switch (cabinet_take_back(&board)) {
+    case CABINET_ACCEPTED: return 1;
+    case CABINET_REFUSED_NO_WRITE_LEFT: return 2;
+    default: return 3;
+    }
+}
+
+/* The lengths and numbers of document 01: an array of -1 bytes would not compile. */
 typedef char lengths_are_right[
-    CABINET_SLOT * CABINET_MOST_POINTS == 60000 && CABINET_LEAST_JOURNAL(500) == 20300 &&
-    CABINET_LEAST_JOURNAL(CABINET_MOST_POINTS) <= CABINET_MOST_JOURNAL ? 1 : -1];
+    CABINET_POINTS_BYTES(CABINET_MOST_POINTS) == 60000 && CABINET_LEAST_JOURNAL_BYTES(500) == 20300 &&
+    CABINET_LEAST_JOURNAL_BYTES(CABINET_MOST_POINTS) <= CABINET_MOST_JOURNAL_BYTES &&
+    CABINET_AXES_BYTES == 72 ? 1 : -1];
+typedef char numbers_are_right[
+    CABINET_ACCEPTED == 0 && CABINET_REFUSED_NO_WRITE_LEFT == 9 && CABINET_REFUSED_MESSAGE == 101 &&
+    CABINET_REFUSED_PATTERN == 107 && CABINET_TOO_LONG == 3 ? 1 : -1];

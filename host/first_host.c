@@ -1,11 +1,11 @@
 #include "cabinet.h"
 #include <stdio.h>
-static uint8_t points[40 * 500], columns[700], journal[32768], axes[72], reply[1024];
+static uint8_t points[CABINET_POINTS_BYTES(500)], journal[32768];
+static struct cabinet board = {.points = points, .points_length = sizeof points, .journal = journal,
+                               .journal_length = sizeof journal, .fitted = 0xFF, .station = 0x99};
 int main(void)
 {
     const char frame[] = "!99200001234567829\r\n"; /* a test call to station 99H; all eight axes are fitted */
-    size_t used = 0, length = 0;
-    cabinet_answer((const uint8_t *)frame, sizeof frame - 1, points, sizeof points, columns, sizeof columns, journal,
-                   sizeof journal, &used, axes, sizeof axes, 0xFF, 0x99, reply, sizeof reply, &length);
-    return fwrite(reply, 1, length, stdout) != length;
+    cabinet_answer_frame(&board, (const uint8_t *)frame, sizeof frame - 1);
+    return fwrite(board.reply, 1, board.reply_length, stdout) != board.reply_length;
 }

@@ -12,7 +12,10 @@
 
 enum { POINTS, COLUMNS, JOURNAL, REPLY, AXES, PARTS };
 
-static uint8_t points[60000], columns[720], journal[65600], reply[1100], axes[80];
+/* Some are longer than the board takes: it must refuse those lengths too. */
+static uint8_t points[CABINET_POINTS_BYTES(CABINET_MOST_POINTS)], columns[CABINET_COLUMNS_BYTES + 20];
+static uint8_t journal[CABINET_MOST_JOURNAL_BYTES + 64], reply[CABINET_REPLY_BYTES + 76];
+static uint8_t axes[CABINET_AXES_BYTES + 8];
 static uint8_t *const area[PARTS] = {points, columns, journal, reply, axes};
 static const size_t most[PARTS] = {sizeof points, sizeof columns, sizeof journal, sizeof reply,
                                    sizeof axes};
@@ -69,13 +72,13 @@ static void board(void)
     size_t named;
     for (named = 0; named < PARTS; named++)
         memset(area[named], named == REPLY ? 0xEE : 0, most[named]);
-    lend(POINTS, 40 * (size_t)number(2));
+    lend(POINTS, CABINET_POINTS_BYTES((size_t)number(2)));
     fitted = (uint8_t)number(1);
     station = (uint8_t)number(1);
     lend(JOURNAL, (size_t)number(4));
-    lend(COLUMNS, 700);
-    lend(REPLY, 1024);
-    lend(AXES, 72);
+    lend(COLUMNS, CABINET_COLUMNS_BYTES);
+    lend(REPLY, CABINET_REPLY_BYTES);
+    lend(AXES, CABINET_AXES_BYTES);
     used = 0;
 }
 

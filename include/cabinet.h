@@ -1,10 +1,13 @@
 /*
  * cabinet.h: the board's answers to the store's computer, for the board's C host.
  *
- * Three calls, on numbers and byte areas: finding a frame in the received bytes, answering one frame,
- * and the service panel's step back. What they promise is document 01's; section names below are its.
+ * Three calls: finding a frame in the received bytes (cabinet_receive), answering one frame
+ * (cabinet_answer_frame) and the service panel's step back (cabinet_take_back). The last two are made
+ * on a struct cabinet, which has all that they need by name; below them stand the archive's own calls
+ * on numbers and byte areas, cabinet_answer and cabinet_step_back. What they promise is document 01's;
+ * section names below are its.
  *
- * Link with libboard.a. C99 or later, or C++.
+ * Link with libboard.a. C99 or later, or C++11 or later.
  *
  *
  * THE AREAS
@@ -33,7 +36,7 @@
  *     not even where the length is 0.
  *   - An area or number that a call may write (points, columns, journal, reply, *used, *reply_length,
  *     *start, *length, *drop) overlaps no other one handed to the same call. The frame may be a part of
- *     the received bytes.
+ *     the received bytes; it is no part of a struct cabinet.
  *   - Lengths and bytes may be any: a wrong length, a spoiled byte or a damaged frame is refused as
  *     the table says, and nothing undefined is done.
  *   - For the step back to give back what was there: start fresh, use the same areas throughout, hand
@@ -44,7 +47,8 @@
  * REFUSAL NUMBERS, IN THE ORDER TESTED
  *
  * An accepted call has number 0. Each number is given exactly when its condition holds and none
- * earlier does. The step back tests 2, 3, 4, then 9; answering a frame tests all but 9.
+ * earlier does. The step back tests 2, 3, 4, then 9; answering a frame tests all but 9. Their names are
+ * those of enum cabinet_refusal.
  *
  *   No.  When                                                        Reply  Left
  *   ---  ----------------------------------------------------------  -----  ------------------------
@@ -73,30 +77,43 @@
  *
  * A HOST'S LOOP
  *
- *   static uint8_t points[CABINET_SLOT * 500], columns[CABINET_COLUMNS], journal[32768];
- *   static uint8_t axes[CABINET_AXES], reply[CABINET_REPLY], line[2 * CABINET_LONGEST_FRAME];
- *   static size_t used, held;                    // all fresh: zero
+ *   #include "cabinet.h"
+ *   #include <string.h>
  *
- *   for (;;) {
- *       uint8_t found;
- *       held += serial_read(line + held, sizeof line - held);
- *       do {
- *           size_t start, length, drop, reply_length;
- *           found = cabinet_receive(line, held, &start, &length, &drop);
- *           if (found == CABINET_FRAME) {
- *               motion_read(axes);
- *               cabinet_answer(line + start, length, points, sizeof points, columns, sizeof columns,
- *                              journal, sizeof journal, &used, axes, sizeof axes, 0xFF, 0x99,
- *                              reply, sizeof reply, &reply_length);
- *               if (reply_length > 0)
- *                   serial_write(reply, reply_length);
- *           }
- *           held -= drop;                        // also where there is no frame
- *           memmove(line, line + drop, held);
- *       } while (found == CABINET_FRAME || found == CABINET_TOO_LONG);
+ *   size_t serial_read(uint8_t *to, size_t room);                    // these three are the host's own
+ *   void serial_write(const uint8_t *bytes, size_t length);
+ *   void motion_read(uint8_t *axes);
+ *
+ *   static uint8_t points[CABINET_POINTS_BYTES(500)], journal[32768];
+ *   static uint8_t line[2 * CABINET_LONGEST_FRAME_BYTES];            // received and not yet dropped
+ *   static size_t held;
+ *   static struct cabinet board = {
+ *       .points = points, .points_length = sizeof points,
+ *       .journal = journal, .journal_length = sizeof journal,
+ *       .fitted = 0xFF, .station = 0x99                              // all else is zero: fresh
+ *   };
+ *
+ *   int main(void)
+ *   {
+ *       for (;;) {
+ *           uint8_t found;
+ *           held += serial_read(line + held, sizeof line - held);
+ *           do {
+ *               size_t start, length, drop;
+ *               found = cabinet_receive(line, held, &start, &length, &drop);
+ *               if (found == CABINET_FRAME) {
+ *                   motion_read(board.axes);
+ *                   cabinet_answer_frame(&board, line + start, length);
+ *                   if (board.reply_length > 0)
+ *                       serial_write(board.reply, board.reply_length);
+ *               }
+ *               held -= drop;                                        // also where there is no frame
+ *               memmove(line, line + drop, held);
+ *           } while (found == CABINET_FRAME || found == CABINET_TOO_LONG);
+ *       }
  *   }
  *
- * The receive buffer needs at least CABINET_LONGEST_FRAME bytes: then after "wait" there is always
+ * The receive buffer needs at least CABINET_LONGEST_FRAME_BYTES: then after "wait" there is always
  * room for one more byte.
  */
 #ifndef CABINET_H
@@ -109,22 +126,58 @@
 extern "C" {
 #endif
 
-/* Lengths in bytes ("The areas", "Frame"). */
-#define CABINET_SLOT 40
+/*
+ * Rises by one with every change of this header that a host can see: a call, a field, a length or a
+ * number added or changed. A host that needs what came with version 2 says
+ *   #if CABINET_VERSION < 2
+ *   #error "an older cabinet.h"
+ *   #endif
+ * The header and the archive belong together: take both from the same state of the repository.
+ */
+#define CABINET_VERSION 1
+
+/* Lengths in bytes ("The areas", "Frame"), and how many points there may be. */
+#define CABINET_SLOT_BYTES 40
 #define CABINET_MOST_POINTS 1500
-#define CABINET_COLUMNS 700
-#define CABINET_AXES 72
-#define CABINET_REPLY 1024
-#define CABINET_SHORTEST_FRAME 10
-#define CABINET_LONGEST_FRAME 1023
-#define CABINET_LEAST_JOURNAL(points_held) (CABINET_SLOT * (points_held) + 300)
-#define CABINET_MOST_JOURNAL 65536
+#define CABINET_POINTS_BYTES(points_held) (CABINET_SLOT_BYTES * (points_held))
+#define CABINET_COLUMNS_BYTES 700
+#define CABINET_LEAST_JOURNAL_BYTES(points_held) (CABINET_POINTS_BYTES(points_held) + 300)
+#define CABINET_MOST_JOURNAL_BYTES 65536
+#define CABINET_RECORD_BYTES 9
+#define CABINET_AXES_BYTES (8 * CABINET_RECORD_BYTES)
+#define CABINET_REPLY_BYTES 1024
+#define CABINET_SHORTEST_FRAME_BYTES 10
+#define CABINET_LONGEST_FRAME_BYTES 1023
+#define CABINET_ERROR_REPLY_BYTES 10
 
 /* What cabinet_receive answers ("Finding a frame in the received bytes"). */
-#define CABINET_FRAME 0    /* a frame was found */
-#define CABINET_NOTHING 1  /* there is no '!' */
-#define CABINET_WAIT 2     /* there is a '!', its frame hasn't ended: come back with more bytes */
-#define CABINET_TOO_LONG 3 /* no CR LF in the 1,023 bytes from the '!' on */
+enum cabinet_found {
+    CABINET_FRAME = 0,   /* a frame was found */
+    CABINET_NOTHING = 1, /* there is no '!' */
+    CABINET_WAIT = 2,    /* there is a '!', its frame hasn't ended: come back with more bytes */
+    CABINET_TOO_LONG = 3 /* no CR LF in the 1,023 bytes from the '!' on */
+};
+
+/* What the other calls answer: the table "Refusal numbers" above. */
+enum cabinet_refusal {
+    CABINET_ACCEPTED = 0,
+    CABINET_REFUSED_REPLY_AREA = 1,
+    CABINET_REFUSED_POINTS_AREA = 2,
+    CABINET_REFUSED_COLUMNS_AREA = 3,
+    CABINET_REFUSED_JOURNAL = 4,
+    CABINET_REFUSED_AXES = 5,
+    CABINET_REFUSED_FRAME = 6,
+    CABINET_REFUSED_SC = 7,
+    CABINET_REFUSED_STATION = 8,
+    CABINET_REFUSED_NO_WRITE_LEFT = 9,
+    CABINET_REFUSED_MESSAGE = 101,
+    CABINET_REFUSED_DIGIT = 102,
+    CABINET_REFUSED_CONTENT_LENGTH = 103,
+    CABINET_REFUSED_PROGRAM = 104,
+    CABINET_REFUSED_COUNT = 105,
+    CABINET_REFUSED_NOT_HELD = 106,
+    CABINET_REFUSED_PATTERN = 107
+};
 
 /*
  * Finds the first frame in the received bytes.
@@ -147,7 +200,8 @@ uint8_t cabinet_receive(const uint8_t *received, size_t received_length,
                         size_t *start, size_t *length, size_t *drop);
 
 /*
- * Answers one frame: does what it asks, all of it, and writes the reply; or refuses it.
+ * Answers one frame: does what it asks, all of it, and writes the reply; or refuses it. Easier to call:
+ * cabinet_answer_frame below.
  *
  *   frame, frame_length           one whole frame, '!' to CR LF; not written
  *   points, points_length         the points area; written by 244H and 246H
@@ -162,8 +216,8 @@ uint8_t cabinet_receive(const uint8_t *received, size_t received_length,
  *   reply, reply_area_length      the reply area; bytes beyond the reply stay
  *   reply_length    out: how many bytes of the reply area are the reply; 0 where there is none
  *
- * Returns 0 where the frame was accepted, else the refusal number (1 to 8: no reply; 101 to 107: the
- * ten bytes of an error reply).
+ * Returns CABINET_ACCEPTED, else the refusal number (1 to 8: no reply; 101 to 107: the ten bytes of an
+ * error reply).
  *
  * Replies to accepted frames, each '#', station, message ID, content, SC, CR, LF, and the content's digits:
  *
@@ -187,7 +241,8 @@ uint16_t cabinet_answer(const uint8_t *frame, size_t frame_length,
                         uint8_t *reply, size_t reply_area_length, size_t *reply_length);
 
 /*
- * Steps back: takes away the latest accepted write that the journal still holds.
+ * Steps back: takes away the latest accepted write that the journal still holds. Easier to call:
+ * cabinet_take_back below.
  *
  *   points, points_length         the points area  } the last entry's old bytes
  *   columns, columns_length       the columns area } are put back into one of them
@@ -195,12 +250,74 @@ uint16_t cabinet_answer(const uint8_t *frame, size_t frame_length,
  *                                 are then 00
  *   used            in and out: the journal's used length; a refused call leaves it
  *
- * Returns 0 where a write was taken back, else the refusal number: 2, 3, 4, or 9 where no write is
- * left. There is no reply.
+ * Returns CABINET_ACCEPTED where a write was taken back, else the refusal number: 2, 3, 4, or 9 where no
+ * write is left. There is no reply.
  */
 uint16_t cabinet_step_back(uint8_t *points, size_t points_length,
                            uint8_t *columns, size_t columns_length,
                            uint8_t *journal, size_t journal_length, size_t *used);
+
+/*
+ * A board: all that the calls below need, by name. Areas whose length is the host's choice are lent;
+ * those of one fixed length are inside, so refusals 1 and 3 don't come.
+ *
+ * Start from all zero and set the lent areas and the settings, by name. In C by a designated
+ * initialiser, as the loop above does; in C++:
+ *   struct cabinet board = {};
+ *   board.points = points;
+ *   board.points_length = sizeof points;
+ * Never by position: a later version may put a field anywhere. In a field added later zero is fresh, or
+ * the rule as it was before, so that a host which doesn't know the field stays as it is.
+ */
+struct cabinet {
+    /* lent areas ("The areas", "Ownership" above): set before the first call */
+    uint8_t *points;
+    size_t points_length;
+    uint8_t *journal;
+    size_t journal_length;
+
+    /* settings */
+    uint8_t fitted;  /* the fitted axes, bit 0 for axis 1; not 0 */
+    uint8_t station; /* two digits in a frame (0x99 for "99") */
+
+    /* the axis records as they are now: the host writes them before each frame */
+    uint8_t axes[CABINET_AXES_BYTES];
+
+    /* kept from call to call, written by the calls alone */
+    uint8_t columns[CABINET_COLUMNS_BYTES];
+    size_t used; /* the journal's used length */
+
+    /* what the last call answered */
+    uint8_t reply[CABINET_REPLY_BYTES];
+    size_t reply_length; /* so many bytes of it; 0 where there is no reply */
+};
+
+/*
+ * Answers one frame, '!' to CR LF, as cabinet_answer does. The reply is the first board->reply_length
+ * bytes of board->reply. Returns CABINET_ACCEPTED or the refusal number.
+ */
+static inline uint16_t cabinet_answer_frame(struct cabinet *board,
+                                            const uint8_t *frame, size_t frame_length)
+{
+    return cabinet_answer(frame, frame_length, board->points, board->points_length,
+                          board->columns, sizeof board->columns,
+                          board->journal, board->journal_length, &board->used,
+                          board->axes, sizeof board->axes, board->fitted, board->station,
+                          board->reply, sizeof board->reply, &board->reply_length);
+}
+
+/*
+ * Takes back the latest accepted write that the journal still holds, as cabinet_step_back does. There
+ * is no reply. Returns CABINET_ACCEPTED or the refusal number, CABINET_REFUSED_NO_WRITE_LEFT where no
+ * write is left.
+ */
+static inline uint16_t cabinet_take_back(struct cabinet *board)
+{
+    board->reply_length = 0;
+    return cabinet_step_back(board->points, board->points_length,
+                             board->columns, sizeof board->columns,
+                             board->journal, board->journal_length, &board->used);
+}
 
 #ifdef __cplusplus
 }
