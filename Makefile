@@ -87,6 +87,7 @@ stored: tools
 host: tools archive
 	$(X86CC) -std=c99 -O2 $(STRICT) host/bench_listing.c $(ARCHIVE) -o target/host/bench_listing
 	$(CHECKED) target/host/bench_listing
+	cmp <(sed -n '/^    #include "cabinet.h"/,/^    }/s/^    //p' README.md) host/first_host.c
 	$(X86CC) -std=c99 -O2 $(STRICT) host/first_host.c $(ARCHIVE) -o target/host/first_host
 	$(X86) target/host/first_host | cmp - <(printf '#9920000123456782B\r\n')
 	$(X86CC) -std=c99 -O2 $(STRICT) host/play_vectors.c $(ARCHIVE) -o target/host/play_vectors
