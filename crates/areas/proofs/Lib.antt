@@ -1,3 +1,4 @@
-pub mod Pairs
+pub mod Known
+pub mod Paired
 pub mod Moves
 pub mod Promised

@@ -8,7 +8,7 @@ use Rattle.digits.proofs.Laid.{part-laid, laid-back, length-laid, before-laid, 
 use Rattle.areas.specs.declared.kinds.Kind.{Kind}
 use Rattle.areas.specs.Kinds.{runOf, put, placeOf, sizeOf}
 use Rattle.areas.specs.Laws.{EveryDigit, Run}
-use Rattle.areas.proofs.Pairs.{digits-back}
+use Rattle.areas.proofs.Paired.{digits-back}
 
 pub every-digit : (s : List ℕ) → EveryDigit s
 every-digit s pairs e a = digits-back pairs s e a

@@ -1,4 +1,4 @@
--- What is promised of runs and columns. The proofs are in proofs/Promised.antt.
+-- What is promised of runs and of pairs of digits. The proofs are in proofs/Promised.antt.
 use Prim.Native.Nat.{ℕ, _+_, _*_, _<_, _≤_}
 use mathlib.Core.Path.{_≡_}
 use mathlib.Core.Bool.{true}
@@ -7,7 +7,7 @@ use lib.ListN.{length, getD}
 use Rattle.digits.specs.Digits.{allDigits}
 use Rattle.areas.specs.declared.kinds.Kind.{Kind}
 use Rattle.areas.specs.Kinds.{runOf, put, placeOf, sizeOf}
-use Rattle.areas.specs.Columns.{bytesIn, digitsIn}
+use Rattle.areas.specs.Pairs.{bytesIn, digitsIn}
 
 -- Demand 2, codes "survive writing and reading back with every digit": pairs of digits, as bytes and back, are the very digits
 abbrev pub EveryDigit : List ℕ → Type 0

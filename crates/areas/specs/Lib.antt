@@ -1,4 +1,4 @@
 pub mod Bytes
 pub mod Kinds
-pub mod Columns
+pub mod Pairs
 pub mod Laws

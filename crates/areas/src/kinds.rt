@@ -1,6 +1,6 @@
 ghost use mathlib.Core.Path.{_≡_};
 ghost use Prim.Native.Nat.{_+_, _*_, _<_, _≤_, _^_};
-ghost use Rattle.areas.specs.Kinds.{pointsOf, columnsOf, kindOf, holds, placeOf};
+ghost use Rattle.areas.specs.Kinds.{pointsOf, columnsOf, kindOf, heldBy, holds, placeOf};
 
 // A kind of numbered thing: its journal tag, first number, bytes for each, how many are held, how many an entry may name.
 pub struct Kind {
@@ -11,39 +11,42 @@ pub struct Kind {
     pub most: usize,
 }
 
-impl Kind {
-    pub fn points(n: usize) -> Kind
-        ensures { λ r. ⌜ r ≡ pointsOf n ⌝ }
+// What the board holds: how many points.
+pub struct Held {
+    pub points: usize,
+}
+
+impl Held {
+    // What a board holds whose points area has so many bytes.
+    pub fn by(points: usize) -> Held
+        ensures { λ r. ⌜ r ≡ heldBy points ⌝ }
     {
-        Kind {
-            tag: 0x50,
-            first: 1,
-            unit: 40,
-            held: n,
-            most: n,
+        Held {
+            points: points / 40,
         }
     }
 
-    pub fn columns() -> Kind
-        ensures { λ r. ⌜ r ≡ columnsOf ⌝ }
+    // Points 1 to N, a slot of 40 bytes each.
+    fn points(self) -> Kind
+        ensures { λ r. ⌜ r ≡ pointsOf self ⌝ }
     {
         Kind {
-            tag: 0x53,
-            first: 300,
-            unit: 1,
-            held: 700,
-            most: 255,
+            tag: Kind::POINTS,
+            first: 1,
+            unit: 40,
+            held: self.points,
+            most: self.points,
         }
     }
 
     // The kind of a tag; of another tag nothing is held.
-    pub fn of(tag: u8, n: usize) -> Kind
-        ensures { λ r. ⌜ r ≡ kindOf n tag ⌝ }
+    pub fn kind(self, tag: u8) -> Kind
+        ensures { λ r. ⌜ r ≡ kindOf self tag ⌝ }
     {
-        if tag == 0x50 {
-            return Kind::points(n);
+        if tag == Kind::POINTS {
+            return self.points();
         }
-        if tag == 0x53 {
+        if tag == Kind::COLUMNS {
             return Kind::columns();
         }
         Kind {
@@ -52,6 +55,26 @@ impl Kind {
             unit: 1,
             held: 0,
             most: 0,
+        }
+    }
+}
+
+impl Kind {
+    // The journal tags.
+    pub const POINTS: u8 = 0x50;
+
+    pub const COLUMNS: u8 = 0x53;
+
+    // String columns 300 to 999, one byte each.
+    fn columns() -> Kind
+        ensures { λ r. ⌜ r ≡ columnsOf ⌝ }
+    {
+        Kind {
+            tag: Kind::COLUMNS,
+            first: 300,
+            unit: 1,
+            held: 700,
+            most: 255,
         }
     }
 

@@ -1,1 +1,3 @@
+pub mod Eight
+pub mod Counted
 pub mod Reading

@@ -7,7 +7,7 @@ use native.Mathlib.Nat.{not-suc-le-zero}
 use native.Mathlib.Numerals.{add-one}
 use lib.ListN.{length, take, drop, set}
 use lib.Seq.{drop-drop, take-suc-set, take-all}
-use Rattle.queries.specs.declared.AxisRecord.{AxisRecord}
+use Rattle.axes.specs.declared.AxisRecord.{AxisRecord}
 use Rattle.axes.specs.Axes.{recordIn, recordsIn}
 
 recordsIn-more : (left : ℕ) (bytes : List ℕ) → 0 < left → recordsIn left bytes ≡ recordIn bytes ∷ recordsIn (left - 1) (drop 9 bytes)

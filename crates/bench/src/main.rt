@@ -1,12 +1,14 @@
 // The bench program (document 01): frames from standard input, replies to standard output.
+use areas::runs::move_run;
 use axes::read_axes;
+use calls::Kept;
+use calls::Settings;
 use finder::Found;
 use finder::find;
+use finder::frame_in;
 use libc::STDIN_FILENO;
 use libc::STDOUT_FILENO;
-use link::Kept;
 use link::answer;
-use refusals::Settings;
 ghost use mathlib.Core.Path.{_≡_};
 ghost use Prim.Native.Nat.{_+_, _≤_};
 ghost use lib.ListN.{length};
@@ -54,17 +56,6 @@ fn serve(
     after.used
 }
 
-// Moves what stands from `from` to `to` to the start.
-fn shift(line: &mut [u8], from: usize, to: usize)
-    requires { ⌜ (from ≤ to) × (to ≤ length (now line)) ⌝ }
-{
-    let mut i = 0;
-    while i < to - from {
-        line[i] = line[from + i];
-        i += 1;
-    }
-}
-
 // One read after the `have` bytes at the start, and how many bytes came: 0 at the end of the input.
 fn fill(line: &mut [u8], have: usize) -> usize
     requires { ⌜ have ≤ length (now line) ⌝ }
@@ -79,8 +70,8 @@ fn pull(line: &mut [u8], drop: usize, have: usize, used: usize) -> Turn
     requires { ⌜ (drop ≤ have) × (have ≤ length (now line)) ⌝ }
     ensures { λ r. ⌜ Less r (length (now (line .entry))) ⌝ }
 {
-    shift(&mut *line, drop, have);
     let left = have - drop;
+    move_run(&mut *line, drop, left);
     if left == line.len() {
         return Turn::End;
     }
@@ -108,16 +99,20 @@ fn go_on(
 {
     let found = find(&line[..have]);
     match found {
-        Found::Frame { start, used: end } => {
-            let left = serve(&line[start..end], points, columns, journal, used);
-            shift(&mut *line, end, have);
+        Found::Frame {
+            start: _,
+            used: end,
+        } => {
+            let frame = frame_in(&line[..have], found);
+            let left = serve(frame, points, columns, journal, used);
+            move_run(&mut *line, end, have - end);
             Turn::On {
                 have: have - end,
                 used: left,
             }
         }
         Found::TooLong { drop } => {
-            shift(&mut *line, drop, have);
+            move_run(&mut *line, drop, have - drop);
             Turn::On {
                 have: have - drop,
                 used,

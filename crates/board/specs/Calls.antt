@@ -4,7 +4,8 @@ use mathlib.Core.Path.{_≡_}
 use Rattle.finder.specs.declared.Found.{Found}
 use Rattle.finder.specs.declared.Found.the-variants.{Frame, Nothing, Wait, TooLong}
 use Rattle.finder.specs.Find.{dropOf}
-use Rattle.refusals.specs.declared.Settings.{Settings}
+use Rattle.calls.specs.declared.Settings.{Settings}
+use Rattle.calls.specs.declared.Kept.{Kept}
 use Rattle.link.specs.declared.Answered.{Answered}
 use Rattle.link.specs.declared.Back.{Back}
 
@@ -39,8 +40,11 @@ pub record Receives (f : Found) (code start length drop : ℕ) : Type 0 where
 abbrev pub settingsOf : ℕ → ℕ → Settings
 settingsOf fitted station = record { station = station; fitted = fitted }
 
+abbrev pub keptOf : ℕ → Kept
+keptOf used = record { used = used }
+
 abbrev pub answeredOf : ℕ → ℕ → ℕ → Answered
-answeredOf number length used = record { number = number; length = length; kept = record { used = used } }
+answeredOf number length used = record { number = number; length = length; kept = keptOf used }
 
 abbrev pub backedOf : ℕ → ℕ → Back
-backedOf number used = record { number = number; kept = record { used = used } }
+backedOf number used = record { number = number; kept = keptOf used }

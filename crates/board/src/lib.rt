@@ -1,17 +1,17 @@
 // The calls that the board's C host makes (include/cabinet.h).
 use axes::read_axes;
+use calls::Kept;
+use calls::Settings;
 use finder::Found;
 use finder::find;
-use link::Kept;
+use finder::frame_in;
 use link::answer;
 use link::step_back;
-use refusals::Settings;
 ghost use Rattle.finder.specs.Find.{findIn};
 ghost use Rattle.axes.specs.Axes.{axesIn};
-ghost use Rattle.link.specs.Answer.{answerOf, backOf};
-ghost use Rattle.refusals.specs.Call.{callOf, backCall};
+ghost use Rattle.calls.specs.Calls.{areasOf, callOf};
 ghost use Rattle.link.specs.Contract.{Answers, StepsBack};
-ghost use Rattle.board.specs.Calls.{Receives, settingsOf, answeredOf, backedOf};
+ghost use Rattle.board.specs.Calls.{Receives, settingsOf, keptOf, answeredOf, backedOf};
 
 // 0 a frame, 1 nothing, 2 wait, 3 too long.
 #[no_mangle]
@@ -24,12 +24,12 @@ pub extern "C" fn cabinet_receive(
     ensures { λ r. ⌜ Receives (findIn (now (received .entry))) r (now (start .exit)) (now (length .exit)) (now (drop .exit)) ⌝ }
 {
     let found = find(received);
+    let frame = frame_in(received, found);
     *start = 0;
-    *length = 0;
+    *length = frame.len();
     match found {
         Found::Frame { start: s, used: u } => {
             *start = s;
-            *length = u - s;
             *drop = u;
             0
         }
@@ -63,9 +63,10 @@ pub extern "C" fn cabinet_answer(
     length: &mut usize,
 ) -> u16
     ensures { λ r. ⌜ Answers
-        (answerOf (callOf (now (frame .entry)) (now (points .entry)) (now (columns .entry)) (now (journal .entry)) (now (used .entry)) (axesIn (now (axes .entry))) (settingsOf fitted station) (now (reply .entry))))
+        (callOf (now (frame .entry)) (axesIn (now (axes .entry))) (settingsOf fitted station) (now (reply .entry))
+        (areasOf (now (points .entry)) (now (columns .entry)) (now (journal .entry)) (keptOf (now (used .entry)))))
         (answeredOf r (now (length .exit)) (now (used .exit)))
-        (now (points .exit)) (now (columns .exit)) (now (journal .exit)) (now (reply .entry)) (now (reply .exit)) ⌝ }
+        (areasOf (now (points .exit)) (now (columns .exit)) (now (journal .exit)) (keptOf (now (used .exit)))) (now (reply .exit)) ⌝ }
 {
     let settings = Settings { station, fitted };
     let kept = Kept { used: *used };
@@ -94,9 +95,9 @@ pub extern "C" fn cabinet_step_back(
     used: &mut usize,
 ) -> u16
     ensures { λ r. ⌜ StepsBack
-        (backOf (backCall (now (points .entry)) (now (columns .entry)) (now (journal .entry)) (now (used .entry))))
+        (areasOf (now (points .entry)) (now (columns .entry)) (now (journal .entry)) (keptOf (now (used .entry))))
         (backedOf r (now (used .exit)))
-        (now (points .exit)) (now (columns .exit)) (now (journal .exit)) ⌝ }
+        (areasOf (now (points .exit)) (now (columns .exit)) (now (journal .exit)) (keptOf (now (used .exit)))) ⌝ }
 {
     let kept = Kept { used: *used };
     let back = step_back(points, columns, journal, kept);

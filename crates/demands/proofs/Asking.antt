@@ -1,173 +1,170 @@
 -- What an accepted frame tells, and that the call after it is heard.
-use Prim.Native.Nat.{ℕ, _/_, _≤_}
-use mathlib.Core.Path.{_≡_, refl, sym, ap, ap₂, _∙_}
-use mathlib.Core.Bool.{Bool, true, false, not}
-use mathlib.Core.List.{List}
+use Prim.Native.Nat.{ℕ, zero, suc, _+_, _≤_}
+use mathlib.Core.Path.{_≡_, refl, sym, ap, ap₂, _∙_, subst}
+use mathlib.Core.Bool.{Bool, true, false}
+use mathlib.Core.List.{List, [], _∷_}
 use native.Mathlib.Omega.{arith}
-use lib.Dec.{eqb, ltb}
-use lib.ListN.{length, take, drop}
-use borrow.Author.Tests.{le-ltb, not-false}
+use lib.ListN.{length, take, drop, length-drop}
+use lib.Seq.{length-take-le, take-take}
+use borrow.Author.Tests.{le-ltb, le-leb, eq-eqb}
+use Rattle.digits.specs.Digits.{numberOf}
 use Rattle.digits.specs.Laid.{laid}
 use Rattle.digits.proofs.Laid.{length-laid}
-use Rattle.frames.specs.Frame.{normal, contentIn, shaped, sumPasses, stationPasses, replyOf}
-use Rattle.messages.specs.declared.Message.{Message}
-use Rattle.messages.specs.Layout.{messageOf, isUnknown}
-use Rattle.messages.specs.Asked.{askedOf, judged, orderOf, notDigits, wrongLength, wrongProgram, countZero, notHeld, wrongPattern}
-use Rattle.messages.proofs.Readiness.{Ready, ready}
-use Rattle.refusals.specs.Call.{Call, Outcome, heldIn}
-use Rattle.refusals.specs.Refusals.{pointsFit, journalFits, axesFit}
-use Rattle.link.specs.Answer.{numberOf, done, answerOf}
-use Rattle.refusals.proofs.Rows.{three, five, seven, ownOf, saidOf, refusal-rows}
-use Rattle.link.proofs.Answering.{Passed, spoken, accepted-answer}
-use Rattle.link.proofs.Carrying.{fine}
-use Rattle.demands.specs.Survive.{Accepted, commandOf, nextCall, Says}
-use Rattle.demands.proofs.Refused.{one-number}
+use Rattle.frames.specs.Frame.{normal, replyOf}
+use Rattle.points.proofs.Parts.{all-take}
+use Rattle.messages.specs.declared.table.Follows.{Follows}
+use Rattle.messages.specs.declared.table.Follows.the-variants.{Nothing}
+use Rattle.messages.specs.declared.table.Action.{Action}
+use Rattle.messages.specs.declared.table.Message.{Message}
+use Rattle.messages.specs.declared.table.Named.{Named}
+use Rattle.messages.specs.declared.table.Named.the-variants.{Known}
+use Rattle.messages.specs.declared.Asked.{Asked}
+use Rattle.messages.specs.declared.Asked.the-variants.{Order}
+use Rattle.messages.specs.Table.{row, messageOf, fieldsOf, startIn, countIn, anyBytes}
+use Rattle.messages.specs.Asked.{askedOf, judged, numberGiven}
+use Rattle.messages.proofs.Judged.{Right, told, ordered}
+use Rattle.calls.specs.declared.Lengths.{Lengths}
+use Rattle.calls.specs.Calls.{Call, Outcome, lengthsOf, heldIn}
+use Rattle.refusals.specs.Refusals.{journalFits, silentOf}
+use Rattle.refusals.proofs.Rows.{AreasPass, call-passed, silent-is, past-silent}
+use Rattle.link.specs.Answer.{held, asked, saidBy, textOf, areasAfter, answerOf}
+use Rattle.link.proofs.Answering.{heard-answer, accepted}
+use Rattle.link.proofs.Carrying.{fine, Judged, judged-so}
+use Rattle.demands.specs.Survive.{content, startOf, countOf, commandOf, nextCall, Says}
 use Rattle.demands.proofs.Commands.{Heard, heard, station-byte, messageNamed, message-of}
 
--- with no number given, each test of the areas is passed, and no number comes from behind them
-five-passed : (p q r s t : Bool) (k : ℕ) → five p q r s t k ≡ 0
-    → (p ≡ false) × (q ≡ false) × (r ≡ false) × (s ≡ false) × (t ≡ false) × (k ≡ 0)
-five-passed true q r s t k e = absurd (omega arith)
-five-passed false true r s t k e = absurd (omega arith)
-five-passed false false true s t k e = absurd (omega arith)
-five-passed false false false true t k e = absurd (omega arith)
-five-passed false false false false true k e = absurd (omega arith)
-five-passed false false false false false k e = (refl, refl, refl, refl, refl, e)
-
--- so for the frame's own tests
-three-passed : (p q r : Bool) (k : ℕ) → three p q r k ≡ 0 → (p ≡ false) × (q ≡ false) × (r ≡ false) × (k ≡ 0)
-three-passed true q r k e = absurd (omega arith)
-three-passed false true r k e = absurd (omega arith)
-three-passed false false true k e = absurd (omega arith)
-three-passed false false false k e = (refl, refl, refl, e)
-
--- so for the tests of message and content
-seven-passed : (p q r s t u v : Bool) → seven p q r s t u v ≡ 0
-    → (p ≡ false) × (q ≡ false) × (r ≡ false) × (s ≡ false) × (t ≡ false) × (u ≡ false) × (v ≡ false)
-seven-passed true q r s t u v e = absurd (omega arith)
-seven-passed false true r s t u v e = absurd (omega arith)
-seven-passed false false true s t u v e = absurd (omega arith)
-seven-passed false false false true t u v e = absurd (omega arith)
-seven-passed false false false false true u v e = absurd (omega arith)
-seven-passed false false false false false true v e = absurd (omega arith)
-seven-passed false false false false false false true e = absurd (omega arith)
-seven-passed false false false false false false false e = (refl, refl, refl, refl, refl, refl, refl)
-
--- none of 101 to 107 is given to a content
-pub record Right (n fitted : ℕ) (m : Message) (content : List ℕ) : Type 0 where
-  pub known : isUnknown m ≡ false
-  pub digits : notDigits m content ≡ false
-  pub long : wrongLength m content ≡ false
-  pub program : wrongProgram m content ≡ false
-  pub some : countZero m content ≡ false
-  pub held : notHeld n m content ≡ false
-  pub pattern : wrongPattern fitted m content ≡ false
-
--- such a content is the message's order
-pub ordered : (n fitted : ℕ) (m : Message) (content : List ℕ) → Right n fitted m content → judged n fitted m content ≡ orderOf m content
-unfolding judged
-ordered n fitted m content r = rw (r .known, r .digits, r .long, r .program, r .some, r .held, r .pattern)
-
--- and carrying it out has all that it needs
-pub ready-order : (n fitted : ℕ) (m : Message) (content : List ℕ) → Right n fitted m content → Ready n content (orderOf m content)
-ready-order n fitted m content r = rw (ordered n fitted m content r) at (ready n fitted m content)
+-- the order of a message over a content
+abbrev pub orderOf : Message → List ℕ → Asked
+orderOf m s = Order m (startIn m s) (countIn m s)
 
 -- an accepted frame passed every test, and orders what its message does
 pub record Took (m : Message) (c : Call) : Type 0 where
-  pub passed : Passed c
-  pub right : Right (heldIn (c .points)) (c .fitted) m (contentIn (c .frame))
-  pub order : answerOf c ≡ done c (orderOf m (contentIn (c .frame)))
+  pub heard : silentOf c ≡ 0
+  pub right : Right (held c) (c .sent .settings .fitted) m (content c)
+  pub assured : Judged (held c) (content c) m (startOf m c) (countOf m c)
+  pub answer : answerOf c ≡ record { number = 0; text = textOf c (orderOf m (content c)); areas = areasAfter c (orderOf m (content c)) }
 
 -- its number alone tells all that
-pub took : (m : Message) (c : Call) → Accepted m c → Took m c
+pub took : (m : Message) (c : Call) → messageOf (c .sent .frame) ≡ Known m → answerOf c .number ≡ 0 → Took m c
 unfolding askedOf
-took m c a =
-    let f = c .frame in
-    let s = contentIn f in
-    let n = heldIn (c .points) in
-    let h =
-    five-passed (ltb (length (c .reply)) 1024) (not (pointsFit (c .points))) (not (eqb (length (c .columns)) 700))
-    (not (journalFits n (c .journal) (c .used)))
-    (not (axesFit (c .eight) (c .records) (c .fitted)))
-    (ownOf c (saidOf c))
-    (sym (refusal-rows c) ∙ sym (one-number .frame c) ∙ a .number) in
-    let o = three-passed (not (shaped f)) (not (sumPasses f)) (not (stationPasses (c .station) f)) (saidOf c) (h .5) in
-    let w =
-    seven-passed (isUnknown (messageOf f)) (notDigits (messageOf f) s) (wrongLength (messageOf f) s) (wrongProgram (messageOf f) s) (countZero (messageOf f) s)
-    (notHeld n (messageOf f) s)
-    (wrongPattern (c .fitted) (messageOf f) s)
-    (o .3) in
-    let p : Passed c = record { r1 = h .0; r2 = h .1; r3 = h .2; r4 = h .3; r5 = h .4; r6 = o .0; r7 = o .1; r8 = o .2 } in
-    let r : Right n (c .fitted) (messageOf f) s = record { known = w .0; digits = w .1; long = w .2; program = w .3; some = w .4; held = w .5; pattern = w .6 } in
-    let q : Right n (c .fitted) m s = rw (a .message) at r in
-    let e : orderOf m s ≡ askedOf n (c .fitted) f = sym (ordered n (c .fitted) m s q) ∙ ap (λ (x : Message). judged n (c .fitted) x s) (sym (a .message)) in
+took m c known number =
+    let a = accepted c number in
+    let h = held c in
+    let f = c .sent .settings .fitted in
+    let t = told h f (messageOf (c .sent .frame)) (content c) (a .message) (a .start) (a .count) (a .order) in
+    let same : a .message ≡ m = let k = t .message in cc in
+    let r : Right h f m (content c) = subst (λ (x : Message). Right h f x (content c)) same (t .rows) in
+    let o : asked c ≡ orderOf m (content c) = ap (λ (n : Named). judged h f n (content c)) known ∙ ordered h f m (content c) r in
     record {
-      passed = p;
-      right = q;
-      order = accepted-answer c (orderOf m s) p e (ap numberOf e ∙ sym (spoken c p) ∙ sym (one-number .frame c) ∙ a .number);
+      heard = a .heard;
+      right = r;
+      assured = judged-so h f (c .sent .frame) m (startOf m c) (countOf m c) o;
+      answer = heard-answer c (a .heard) ∙ ap (λ (x : Asked). record { number = numberGiven x; text = textOf c x; areas = areasAfter c x }) o;
     }
 
--- what an outcome leaves is as long as what was lent, and its journal is one that the next call takes
-pub record Lasting (c : Call) (o : Outcome) : Type 0 where
-  pub points-long : length (o .points) ≡ length (c .points)
-  pub columns-long : length (o .columns) ≡ length (c .columns)
-  pub journal : journalFits (heldIn (c .points)) (o .journal) (o .used) ≡ true
-  pub text-long : length (o .text) ≤ 1024
-
--- a length that stays passes the test that it passed
-points-again : (p q : List ℕ) → length q ≡ length p → pointsFit q ≡ pointsFit p
-unfolding pointsFit
-points-again p q e = rw e
+-- what is left is as long as what was lent, and its journal is one that the next call takes
+pub record Lasting (c : Call) : Type 0 where
+  pub lengths : lengthsOf (answerOf c .areas) ≡ lengthsOf (c .areas)
+  pub journal : journalFits (held c) (answerOf c .areas .journal) (answerOf c .areas .kept .used) ≡ true
+  pub text-long : length (answerOf c .text) ≤ 1024
 
 -- the call after it passes every test before a reply
-pub passed-again : (c : Call) (said frame : List ℕ) → Passed c → Lasting c (answerOf c) → Heard (c .station) said frame → Passed (nextCall c frame)
-passed-again c said frame p l h =
-    let r = fine c p .reply-long in
+pub heard-again : (c : Call) (said frame : List ℕ) → silentOf c ≡ 0 → Lasting c → Heard (c .sent .settings .station) said frame → silentOf (nextCall c frame) ≡ 0
+heard-again c said frame e l h =
+    let p = call-passed c e in
+    let next = nextCall c frame in
+    let r = fine c e .reply-long in
     let t = l .text-long in
-    let n : length (laid (c .reply) 0 (answerOf c .text)) ≡ length (c .reply) = length-laid (c .reply) 0 (answerOf c .text) (omega arith) in
-    record {
-      r1 = le-ltb (length (laid (c .reply) 0 (answerOf c .text))) 1024 (omega arith);
-      r2 = ap not (points-again (c .points) (answerOf c .points) (l .points-long)) ∙ p .r2;
-      r3 = rw (l .columns-long) (p .r3);
-      r4 = rw (l .points-long, l .journal);
-      r5 = p .r5;
-      r6 = rw (h .has-shape);
-      r7 = rw (h .has-sum);
-      r8 = rw (h .has-station);
-    }
+    let n : length (laid (c .sent .reply) 0 (answerOf c .text)) ≡ length (c .sent .reply) = length-laid (c .sent .reply) 0 (answerOf c .text) (omega arith) in
+    silent-is next
+    ∙ past-silent (length (next .sent .reply)) frame (c .sent .axes) (c .sent .settings) (lengthsOf (next .areas)) (next .areas .journal) (next .areas .kept)
+    (record {
+      reply-long = le-ltb (length (laid (c .sent .reply) 0 (answerOf c .text))) 1024 (omega arith);
+      areas =
+          subst (λ (x : Lengths). AreasPass x (answerOf c .areas .journal) (answerOf c .areas .kept)) (sym (l .lengths))
+          (record { points = p .areas .points; columns = p .areas .columns; journal-fits = l .journal });
+      axes-fit = p .axes-fit;
+      shape = h .has-shape;
+      sum = h .has-sum;
+      station = h .has-station;
+    })
+    0
 
 -- what a heard frame asks of the board that is left
-asked-again : (c : Call) (asked frame : List ℕ) (q : Message) → Lasting c (answerOf c) → Heard (c .station) asked frame → messageNamed (take 3 asked) ≡ q
-    → Right (heldIn (c .points)) (c .fitted) q (drop 3 asked) → orderOf q (drop 3 asked) ≡ askedOf (heldIn (answerOf c .points)) (c .fitted) frame
+asked-again : (c : Call) (asks frame : List ℕ) (q : Message) → Lasting c → Heard (c .sent .settings .station) asks frame → messageNamed (take 3 asks) ≡ Known q
+    → Right (held c) (c .sent .settings .fitted) q (drop 3 asks) → asked (nextCall c frame) ≡ orderOf q (drop 3 asks)
 unfolding askedOf
-asked-again c asked frame q l h e r =
-    sym
-    (ap₂ (λ (x : Message) (y : List ℕ). judged (heldIn (answerOf c .points)) (c .fitted) x y) (message-of frame (take 3 asked) (h .message) ∙ e) (h .content)
-    ∙ ap (λ (x : ℕ). judged (x / 40) (c .fitted) q (drop 3 asked)) (l .points-long)
-    ∙ ordered (heldIn (c .points)) (c .fitted) q (drop 3 asked) r)
+asked-again c asks frame q l h e r =
+    let f = c .sent .settings .fitted in
+    ap₂ (λ (n : Named) (s : List ℕ). judged (held (nextCall c frame)) f n s) (message-of frame (take 3 asks) (h .message) ∙ e) (h .content)
+    ∙ ap (λ (x : Lengths). judged (heldIn x) f (Known q) (drop 3 asks)) (l .lengths)
+    ∙ ordered (held c) f q (drop 3 asks) r
 
 -- asked so, the board accepts and says what its order does
-pub says : (c : Call) (asked said : List ℕ) (q : Message) → Passed c → Lasting c (answerOf c) → numberOf (orderOf q (drop 3 asked)) ≡ 0 → 3 ≤ length asked → length asked ≤ 1016
-    → messageNamed (take 3 asked) ≡ q → Right (heldIn (c .points)) (c .fitted) q (drop 3 asked)
-    → ((frame : List ℕ) → Heard (c .station) asked frame → done (nextCall c frame) (orderOf q (drop 3 asked)) .text ≡ replyOf normal (c .station) said)
-    → Says c asked said
-says c asked said q p l z least most e r t =
+pub says : (c : Call) (asks said : List ℕ) (q : Message) → silentOf c ≡ 0 → Lasting c → 3 ≤ length asks → length asks ≤ 1016
+    → messageNamed (take 3 asks) ≡ Known q → Right (held c) (c .sent .settings .fitted) q (drop 3 asks)
+    → ((frame : List ℕ) → saidBy (q .does) (nextCall c frame) q (startIn q (drop 3 asks)) (countIn q (drop 3 asks)) ≡ said)
+    → Says c asks said
+says c asks said q z l least most e r t =
     record {
-      number = λ b. one-number .frame (next b) ∙ spoken (next b) (again b) ∙ ap numberOf (sym (order b)) ∙ z;
-      text = λ b. ap (λ (o : Outcome). o .text) (accepted-answer (next b) (orderOf q (drop 3 asked)) (again b) (order b) z) ∙ t (frame b) (is b);
+      number = λ b. ap (λ (o : Outcome). o .number) (heard-answer (next b) (again b)) ∙ ap numberGiven (order b);
+      text = λ b.
+          ap (λ (o : Outcome). o .text) (heard-answer (next b) (again b)) ∙ ap (textOf (next b)) (order b)
+          ∙ ap (replyOf normal (c .sent .settings .station)) (t (frame b));
     }
   where
+    station : ℕ
+    station = c .sent .settings .station
+
     frame : Bool → List ℕ
-    frame b = commandOf b (c .station) asked
+    frame b = commandOf b station asks
 
     next : Bool → Call
     next b = nextCall c (frame b)
 
-    is : (b : Bool) → Heard (c .station) asked (frame b)
-    is b = heard b (c .station) asked (station-byte (c .station) (c .frame) (fine c p .frame-long) (not-false _ (p .r8))) least most
+    is : (b : Bool) → Heard station asks (frame b)
+    is b = heard b station asks (station-byte station (c .sent .frame) (fine c z .frame-long) (call-passed c z .station)) least most
 
-    again : (b : Bool) → Passed (next b)
-    again b = passed-again c asked (frame b) p l (is b)
+    again : (b : Bool) → silentOf (next b) ≡ 0
+    again b = heard-again c asks (frame b) z l (is b)
 
-    order : (b : Bool) → orderOf q (drop 3 asked) ≡ askedOf (heldIn (answerOf c .points)) (c .fitted) (frame b)
-    order b = asked-again c asked (frame b) q l (is b) e r
+    order : (b : Bool) → asked (next b) ≡ orderOf q (drop 3 asks)
+    order b = asked-again c asks (frame b) q l (is b) e r
+
+-- a part of a front is that part of the whole
+pub same-part : (n at front : ℕ) (s : List ℕ) → at + n ≤ front → take n (drop at (take front s)) ≡ take n (drop at s)
+same-part n zero front s h = take-take n front s (omega arith)
+same-part n (suc at) zero s h = absurd (omega arith)
+same-part n (suc at) (suc front) [] h = refl
+same-part n (suc at) (suc front) (x ∷ s) h = same-part n at front s (omega arith)
+
+-- a message of any kind, and a query with the same fields and nothing behind them; the fields of what was sent to the one say the same to the other
+module _ (id id′ program start count tag : ℕ) (follows : Follows) (does does′ : Action) (repeats repeats′ : Bool) where
+  abbrev sent : Message
+  sent = row id program start count tag follows does repeats
+
+  abbrev query : Message
+  query = row id′ program start count tag Nothing does′ repeats′
+
+  module _ (s : List ℕ) where
+    pub same-start : startIn query (take (fieldsOf sent) s) ≡ startIn sent s
+    same-start = ap numberOf (same-part start program (fieldsOf sent) s (omega arith))
+
+    pub same-count : countIn query (take (fieldsOf sent) s) ≡ countIn sent s
+    same-count = ap numberOf (same-part count (program + start) (fieldsOf sent) s (omega arith))
+
+  -- such a query passes the tests that the message passed
+  pub query-right : (c : Call) → Took sent c → anyBytes follows ≡ false → Right (held c) (c .sent .settings .fitted) query (take (fieldsOf sent) (content c))
+  query-right c t any =
+      let s = content c in
+      let r = t .right in
+      let n : length (take (fieldsOf sent) s) ≡ fieldsOf sent = length-take-le (fieldsOf sent) s (t .assured .fields) in
+      let z : length (drop (fieldsOf sent) (take (fieldsOf sent) s)) ≡ 0 = simp length-drop (omega arith) in
+      record {
+        digits = rw (all-take (fieldsOf sent) s (t .assured .digits any));
+        long = rw (le-leb (fieldsOf sent) (length (take (fieldsOf sent) s)) (omega arith), eq-eqb _ 0 z);
+        program = rw (take-take program (fieldsOf sent) s (omega arith)) (r .program);
+        some = rw (same-count s) (r .some);
+        held-all = rw (same-start s, same-count s) (r .held-all);
+        pattern = refl;
+      }

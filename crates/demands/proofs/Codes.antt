@@ -1,125 +1,98 @@
--- 24EH, then 210H: the very digits that were sent.
-use Prim.Native.Nat.{ℕ, _*_, _≤_}
-use mathlib.Core.Path.{_≡_, refl, ap, ap₂, _∙_}
-use mathlib.Core.List.{List, _++_}
+-- 24EH, then 210H: the very digits that were sent; so for a run of any kind.
+use Prim.Native.Nat.{ℕ, _+_, _*_, _≤_}
+use mathlib.Core.Path.{_≡_, refl, sym, ap, ap₂, _∙_, subst}
+use mathlib.Core.Bool.{Bool, true}
+use mathlib.Core.List.{List, _++_, append-assoc}
 use native.Mathlib.Omega.{arith}
 use lib.ListN.{length, take, drop, length-take, length-drop, take-append-drop}
-use lib.Seq.{length-take-le}
-use borrow.Author.Tests.{eq-eqb}
-use Rattle.digits.specs.Digits.{numberOf}
+use lib.Seq.{length-take-le, take-add}
+use borrow.Author.Tests.{eqb-true}
+use Rattle.digits.specs.Digits.{byteOf, digitsOf, allDigits, numberOf}
 use Rattle.digits.specs.Text.{text}
-use Rattle.frames.specs.Frame.{normal, messageIn, contentIn, replyOf}
-use Rattle.areas.specs.Kinds.{columnsOf, runOf, put}
-use Rattle.areas.specs.Columns.{bytesIn, digitsIn}
-use Rattle.areas.proofs.Pairs.{length-bytesIn}
+use Rattle.digits.proofs.Inverse.{inverse}
+use Rattle.digits.proofs.Bools.{was-not}
+use Rattle.areas.specs.Kinds.{columnsTag, kindOf, runOf}
+use Rattle.areas.specs.Pairs.{digitsIn}
 use Rattle.areas.proofs.Promised.{every-digit}
-use Rattle.points.proofs.Parts.{all-take, all-drop}
-use Rattle.messages.specs.declared.Message.the-variants.{Columns, Change}
-use Rattle.messages.specs.Layout.{startOf, countOf, programOf}
-use Rattle.messages.specs.Asked.{orderOf}
-use Rattle.messages.proofs.Readiness.{Ready}
-use Rattle.queries.specs.Replies.{columnsText}
-use Rattle.refusals.specs.Call.{Call, heldIn}
-use Rattle.link.specs.Answer.{answerOf}
-use Rattle.link.proofs.Carrying.{Fine, fine}
-use Rattle.demands.specs.Survive.{Accepted, CodesSurvive}
-use Rattle.demands.proofs.Commands.{named}
-use Rattle.demands.proofs.Asking.{Right, ready-order, Took, took, Lasting, says}
-use Rattle.demands.proofs.Written.{same-part, outside, read-back, ID-short, columns-last}
+use Rattle.points.proofs.Parts.{all-take, all-drop, all-part}
+use Rattle.messages.specs.declared.table.Follows.the-variants.{Nothing, RunBytes}
+use Rattle.messages.specs.declared.table.Action.the-variants.{ReadRun, ChangeRun}
+use Rattle.messages.specs.declared.table.Message.{Message}
+use Rattle.messages.specs.declared.table.Named.the-variants.{Known}
+use Rattle.messages.specs.Table.{row, fieldsOf, startIn, countIn}
+use Rattle.queries.specs.Replies.{headOf, runText}
+use Rattle.calls.specs.declared.Lengths.{Lengths}
+use Rattle.calls.specs.Calls.{Call, lengthsOf, heldIn, areaIn}
+use Rattle.link.specs.Answer.{saidBy, answerOf}
+use Rattle.link.proofs.Carrying.{fine}
+use Rattle.demands.specs.Survive.{content, startOf, countOf, Accepted, nextCall, CodesSurvive}
+use Rattle.demands.proofs.Commands.{reading, changing, row-of, rows, named}
+use Rattle.demands.proofs.Asking.{Took, took, Lasting, says, same-start, same-count, query-right}
+use Rattle.demands.proofs.Written.{kindIn, newIn, wrote, lasts, area-size, read-back}
 
--- of a 24EH's content, the first seven digits say to a 210H what they say to the 24EH
-module _ (s : List ℕ) where
-  -- the program
-  same-program : programOf Columns (take 7 s) ≡ programOf Change s
-  same-program = ap numberOf (same-part 2 0 7 s (omega arith))
+-- fields that a reply repeats are the very digits that were sent
+pub fields-back : (program start count : ℕ) (s : List ℕ) → allDigits s ≡ true → program + start + count ≤ length s → numberOf (take program s) ≡ 0
+    → digitsOf program 0 ++ (digitsOf start (numberOf (take start (drop program s))) ++ digitsOf count (numberOf (take count (drop (program + start) s))))
+    ≡ take (program + start + count) s
+fields-back program start count s a l z =
+    let p : digitsOf program 0 ≡ take program s =
+    ap (digitsOf program) (sym z) ∙ inverse program .digits-of-value (take program s) (length-take-le program s (omega arith)) (all-take program s a) in
+    let q = inverse start .digits-of-value (take start (drop program s)) (length-take-le start (drop program s) (simp length-drop (omega arith))) (all-part start program s a) in
+    let r =
+    inverse count .digits-of-value (take count (drop (program + start) s)) (length-take-le count (drop (program + start) s) (simp length-drop (omega arith)))
+    (all-part count (program + start) s a) in
+    rw (p, q, r, take-add (program + start) count s, take-add program start s) (sym (append-assoc (take program s) (take start (drop program s)) (take count (drop (program + start) s))))
 
-  -- the start
-  same-start : startOf Columns (take 7 s) ≡ startOf Change s
-  same-start = ap numberOf (same-part 3 2 7 s (omega arith))
+-- a run of any kind that is changed, and a query that reads it, with the same fields
+module _ (id id′ program start count tag : ℕ) (repeats : Bool) where
+  abbrev change : Message
+  change = row id program start count tag RunBytes ChangeRun repeats
 
-  -- the count
-  same-count : countOf Columns (take 7 s) ≡ countOf Change s
-  same-count = ap numberOf (same-part 2 5 7 s (omega arith))
+  abbrev read : Message
+  read = row id′ program start count tag Nothing ReadRun true
 
--- a 210H with them passes the tests that the 24EH passed
-asked-right : (n fitted : ℕ) (s : List ℕ) → Right n fitted Change s → Right n fitted Columns (take 7 s)
-asked-right n fitted s r =
-    let c = ready-order n fitted Change s r in
-    let l : length (take 7 s) ≡ 7 = length-take-le 7 s (omega (arith, c .0)) in
-    record {
-      known = refl;
-      digits = rw (all-take 7 s (c .1));
-      long = rw (eq-eqb _ _ l);
-      program = rw (same-program s) (r .program);
-      some = rw (same-count s) (r .some);
-      held = rw (same-start s, same-count s) (r .held);
-      pattern = refl;
-    }
+  module _ (c : Call) (t : Took change c) (l : Lasting c) where
+    -- the bytes that are read are those that were sent
+    same-digits : digitsIn (runOf (kindIn change c) (startOf change c) (countOf change c) (areaIn tag (answerOf c .areas))) ≡ drop (fieldsOf change) (content c)
+    same-digits =
+        let w = wrote change c t refl in
+        let d : length (drop (fieldsOf change) (content c)) ≡ 2 * (countOf change c * kindIn change c .unit) = eqb-true _ _ (t .assured .follows) in
+        rw (
+          w .own,
+          read-back (kindIn change c) (startOf change c) (countOf change c) (newIn change c) (areaIn tag (c .areas)) (w .run .run .held-all) (area-size c (fine c (t .heard)) tag) (w .run .long),
+        )
+        (every-digit (drop (fieldsOf change) (content c)) (countOf change c * kindIn change c .unit) d (all-drop (fieldsOf change) (content c) (t .assured .digits refl)))
 
--- two digits for each column are one byte for each
-bytes-long : (n fitted : ℕ) (s : List ℕ) → Right n fitted Change s → length (bytesIn (drop 7 s)) ≡ countOf Change s * 1
-bytes-long n fitted s r =
-    let c = ready-order n fitted Change s r in
-    let d : length (drop 7 s) ≡ 2 * countOf Change s = length-drop 7 s ∙ omega (arith, c .0) in
-    omega (arith, length-bytesIn (countOf Change s) (drop 7 s) d)
-
--- the columns that were set say back the very digits
-same-digits : (n fitted : ℕ) (s columns : List ℕ) → Right n fitted Change s → length columns ≡ 700
-    → take 7 s ++ digitsIn (runOf columnsOf (startOf Columns (take 7 s)) (countOf Columns (take 7 s)) (put columnsOf (startOf Change s) (bytesIn (drop 7 s)) columns)) ≡ s
-same-digits n fitted s columns r l =
-    let c = ready-order n fitted Change s r in
-    let d : length (drop 7 s) ≡ 2 * countOf Change s = length-drop 7 s ∙ omega (arith, c .0) in
-    rw (
-      same-start s,
-      same-count s,
-      read-back columnsOf (startOf Change s) (countOf Change s) (bytesIn (drop 7 s)) columns (c .4) l (bytes-long n fitted s r),
-      every-digit (drop 7 s) (countOf Change s) d (all-drop 7 s (c .1)),
-    )
-    (take-append-drop 7 s)
-
--- the reply of a 210H over them
-code-text : (n fitted : ℕ) (s columns columns′ frame : List ℕ) → Right n fitted Change s → length columns ≡ 700 → columns′ ≡ put columnsOf (startOf Change s) (bytesIn (drop 7 s)) columns
-    → messageIn frame ≡ text "210" → contentIn frame ≡ take 7 s
-    → columnsText frame (startOf Columns (take 7 s)) (countOf Columns (take 7 s)) columns′ ≡ text "210" ++ s
-code-text n fitted s columns columns′ frame r l e m t =
-    ap₂ (λ (x y : List ℕ). x ++ (y ++ digitsIn (runOf columnsOf (startOf Columns (take 7 s)) (countOf Columns (take 7 s)) columns′))) m t
-    ∙ ap (λ (x : List ℕ). text "210" ++ (take 7 s ++ digitsIn (runOf columnsOf (startOf Columns (take 7 s)) (countOf Columns (take 7 s)) x))) e
-    ∙ ap (λ (x : List ℕ). text "210" ++ x) (same-digits n fitted s columns r l)
+    -- so a query of that run says the ID and the very content that was sent
+    said-back : (frame : List ℕ)
+        → saidBy ReadRun (nextCall c frame) read (startIn read (take (fieldsOf change) (content c))) (countIn read (take (fieldsOf change) (content c)))
+        ≡ digitsOf 3 id′ ++ content c
+    said-back frame =
+        let s = content c in
+        ap₂ (λ (x y : ℕ). runText read (kindOf (heldIn (lengthsOf (answerOf c .areas))) tag) x y (areaIn tag (answerOf c .areas)))
+        (same-start id id′ program start count tag RunBytes ChangeRun ReadRun repeats true s)
+        (same-count id id′ program start count tag RunBytes ChangeRun ReadRun repeats true s)
+        ∙ ap (λ (x : Lengths). runText read (kindOf (heldIn x) tag) (startOf change c) (countOf change c) (areaIn tag (answerOf c .areas))) (l .lengths)
+        ∙ ap (λ (x : List ℕ). headOf read (startOf change c) (countOf change c) ++ x) same-digits
+        ∙ append-assoc (digitsOf 3 id′) (digitsOf program 0 ++ (digitsOf start (startOf change c) ++ digitsOf count (countOf change c))) (drop (fieldsOf change) s)
+        ∙ ap (λ (x : List ℕ). digitsOf 3 id′ ++ (x ++ drop (fieldsOf change) s))
+        (fields-back program start count s (t .assured .digits refl) (t .assured .fields) (eqb-true _ _ (was-not (t .right .program))))
+        ∙ ap (λ (x : List ℕ). digitsOf 3 id′ ++ x) (take-append-drop (fieldsOf change) s)
 
 -- after an accepted 24EH a 210H of the same columns says the very content that was sent
-pub codes-survive : (c : Call) → Accepted Change c → CodesSurvive c
-codes-survive c a =
+changed : (c : Call) → Took changing c → Lasting c → CodesSurvive changing c
+unfolding byteOf
+changed c t l =
     record {
+      kind = refl;
       read-back =
-          says c (text "210" ++ take 7 s) (text "210" ++ s) Columns (t .passed) lasts refl (omega arith) (omega (arith, seven)) (named .2) (asked-right n (c .fitted) s (t .right))
-          (λ frame h. ap (replyOf normal (c .station)) (code-text n (c .fitted) s (c .columns) (answerOf c .columns) frame (t .right) (f .columns) set (h .message) (h .content)));
-      others = rw (t .order) (outside columnsOf (startOf Change s) (countOf Change s) (bytesIn (drop 7 s)) (c .columns) (r .4) (f .columns) (bytes-long n (c .fitted) s (t .right)));
-      points = rw (t .order);
+          says c (text "210" ++ take 7 (content c)) (text "210" ++ content c) reading (t .heard) l (omega arith) (simp length-take (omega arith)) (named .2)
+          (query-right 0x24E 0x210 2 3 2 columnsTag RunBytes ChangeRun ReadRun _ true c t refl)
+          (said-back 0x24E 0x210 2 3 2 columnsTag _ c t l);
     }
-  where
-    n : ℕ
-    n = heldIn (c .points)
 
-    s : List ℕ
-    s = contentIn (c .frame)
-
-    t : Took Change c
-    t = took Change c a
-
-    f : Fine c
-    f = fine c (t .passed)
-
-    r : Ready n s (orderOf Change s)
-    r = ready-order n (c .fitted) Change s (t .right)
-
-    lasts : Lasting c (answerOf c)
-    lasts =
-        rw (t .order)
-        (columns-last c (startOf Change s) (countOf Change s) (bytesIn (drop 7 s)) (messageIn (c .frame)) f (a .bytes) (r .2) (r .3) (r .4) (bytes-long n (c .fitted) s (t .right))
-        (omega (arith, ID-short (c .frame))))
-
-    set : answerOf c .columns ≡ put columnsOf (startOf Change s) (bytesIn (drop 7 s)) (c .columns)
-    set = rw (t .order)
-
-    seven : length (take 7 s) ≤ 7
-    seven = rw (length-take 7 s) (omega arith)
+pub codes-survive : (c : Call) (a : Accepted 0x24E c) → CodesSurvive (a .message) c
+codes-survive c a =
+    let e = row-of (c .sent .frame) 0x24E changing (a .known) (a .named) (rows .2) in
+    let t = took changing c (a .known ∙ ap Known e) (a .number) in
+    subst (λ (m : Message). CodesSurvive m c) (sym e) (changed c t (lasts changing c t refl (a .bytes)))

@@ -8,15 +8,20 @@ use lib.Dec.{eqb}
 use lib.ListN.{length, take, drop, getD, length-append, length-drop}
 use lib.Seq.{length-take-le, take-append-le, drop-append-le, take-at, drop-at, getD-at}
 use borrow.Author.Tests.{eqb-true, le-leb}
-use Rattle.digits.specs.Digits.{digitOf, digitsOf, allDigits, numberOf}
+use Rattle.digits.specs.Digits.{isDigit, worthOf, digitsOf, allDigits, numberOf}
 use Rattle.digits.specs.Text.{text}
 use Rattle.digits.proofs.Inverse.{inverse, and-left, and-right}
 use Rattle.frames.specs.Frame.{CR, LF, stationIn, messageIn, contentIn, scIn, scOf, shaped, sumTrue, sumOff, sumPasses, stationPasses}
 use Rattle.frames.proofs.Bools.{or-true}
 use Rattle.frames.proofs.Promised.{closed-true, says-digits}
-use Rattle.messages.specs.declared.Message.{Message}
-use Rattle.messages.specs.declared.Message.the-variants.{Count, Points, Columns, Unknown}
-use Rattle.messages.specs.Layout.{messageNumbered, messageOf}
+use Rattle.areas.specs.Kinds.{pointsTag, columnsTag}
+use Rattle.messages.specs.declared.table.Follows.the-variants.{Nothing, Points, RunBytes}
+use Rattle.messages.specs.declared.table.Action.the-variants.{CountPoints, ListPoints, ReadRun, WritePoints, ClearRun, ChangeRun}
+use Rattle.messages.specs.declared.table.Message.{Message}
+use Rattle.messages.specs.declared.table.Named.{Named}
+use Rattle.messages.specs.declared.table.Named.the-variants.{Known, Unknown}
+use Rattle.messages.specs.Table.{row, messageNumbered, messageOf}
+use Rattle.messages.proofs.Shapes.{in-frame}
 use Rattle.demands.specs.Survive.{before, commandOf}
 
 -- a frame with any two bytes as its SC
@@ -121,11 +126,43 @@ station-byte station frame h e =
     let l : length s ≡ 2 = length-take-le 2 (drop 1 frame) (simp length-drop (omega arith)) in
     let a : allDigits s ≡ true = and-left (allDigits s) (eqb (numberOf s) station) e in
     let v : numberOf s ≡ station = eqb-true (numberOf s) station (and-right (allDigits s) (eqb (numberOf s) station) e) in
-    let b : numberOf s < 16 ^ 2 = inverse 2 .bound s l a in
+    let b : numberOf s < 16 ^ 2 = inverse 2 .bound s l in
     omega arith
 
+-- the rows of the messages that are spoken of
+abbrev pub counting : Message
+counting = row 0x208 0 0 0 0 Nothing CountPoints false
+
+abbrev pub listing : Message
+listing = row 0x209 0 3 3 pointsTag Nothing ListPoints false
+
+abbrev pub reading : Message
+reading = row 0x210 2 3 2 columnsTag Nothing ReadRun true
+
+abbrev pub writing : Message
+writing = row 0x244 0 3 3 pointsTag Points WritePoints true
+
+abbrev pub clearing : Message
+clearing = row 0x246 0 3 3 pointsTag Nothing ClearRun false
+
+abbrev pub changing : Message
+changing = row 0x24E 2 3 2 columnsTag RunBytes ChangeRun false
+
+-- the table's row of an ID is the one that a frame's message with that ID is
+numbered : (frame : List ℕ) {m : Message} → messageOf frame ≡ Known m → messageNumbered (m .id) ≡ Known m
+unfolding messageNumbered
+numbered frame e = in-frame (λ (m : Message). messageNumbered (m .id) ≡ Known m) frame (refl, (refl, (refl, (refl, (refl, (refl, (refl, (refl, tt)))))))) e
+
+pub row-of : (frame : List ℕ) {m : Message} (id : ℕ) (r : Message) → messageOf frame ≡ Known m → m .id ≡ id → messageNumbered id ≡ Known r → m ≡ r
+row-of frame {m} id r e i n = let k : Known m ≡ Known r = sym (numbered frame e) ∙ ap messageNumbered i ∙ n in cc
+
+-- 244H, 246H and 24EH are these
+pub rows : (messageNumbered 0x244 ≡ Known writing) × (messageNumbered 0x246 ≡ Known clearing) × (messageNumbered 0x24E ≡ Known changing)
+unfolding messageNumbered
+rows = (refl, refl, refl)
+
 -- the message that an ID names
-abbrev pub messageNamed : List ℕ → Message
+abbrev pub messageNamed : List ℕ → Named
 messageNamed id = cond (allDigits id) (messageNumbered (numberOf id)) Unknown
 
 -- a frame's message is the one that its ID names
@@ -134,6 +171,6 @@ unfolding messageOf
 message-of frame id e = rw e
 
 -- 208H, 209H and 210H are known
-pub named : (messageNamed (text "208") ≡ Count) × (messageNamed (text "209") ≡ Points) × (messageNamed (text "210") ≡ Columns)
-unfolding digitOf messageNumbered
+pub named : (messageNamed (text "208") ≡ Known counting) × (messageNamed (text "209") ≡ Known listing) × (messageNamed (text "210") ≡ Known reading)
+unfolding isDigit worthOf messageNumbered
 named = (refl, refl, refl)

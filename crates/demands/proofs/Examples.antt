@@ -1,17 +1,10 @@
 -- The examples, by computing.
 use mathlib.Core.Path.{refl}
-use Rattle.digits.specs.Digits.{digitOf, byteOf}
-use Rattle.frames.specs.Frame.{shaped, sumTrue, sumOff, sumPasses, stationPasses}
-use Rattle.areas.specs.Kinds.{holds}
-use Rattle.journal.specs.Journal.{whole}
-use Rattle.messages.specs.Layout.{messageNumbered, messageOf}
-use Rattle.messages.specs.Asked.{askedOf, judged}
-use Rattle.refusals.specs.Refusals.{pointsFit, journalFits, recordsFit, axesFit, table, refusalOf, silentOf, backRefusalOf}
-use Rattle.link.specs.Answer.{answerOf, backOf}
 use Rattle.demands.specs.Examples.{Examples}
+use Rattle.demands.proofs.Computing.{a-call}
 
 pub examples : Examples
-unfolding digitOf byteOf shaped sumTrue sumOff sumPasses stationPasses holds whole messageNumbered messageOf askedOf judged pointsFit journalFits recordsFit axesFit table refusalOf silentOf backRefusalOf answerOf backOf
+unfolding a-call
 examples =
     record {
       with-reply = refl;
@@ -23,6 +16,6 @@ examples =
       test-reply = refl;
       seven-lent = refl;
       eight-lent = refl;
-      step-back = λ c. record { number-is = refl; used-is = refl; points-are = refl; columns-are = refl; journal-is = refl };
+      step-back = λ a. record { number-is = refl; kept-is = refl; areas-are = refl };
       receive = λ f. record { code-is = refl; start-is = refl; length-is = refl; drop-is = refl };
     }

@@ -6,6 +6,7 @@ use mathlib.Core.List.{List, [], _∷_, _++_}
 use native.Mathlib.Omega.{arith}
 use lib.ListN.{length, take, length-append, length-replicate}
 use borrow.Author.Tests.{le-leb}
+use Rattle.areas.specs.declared.kinds.Held.{Held}
 use Rattle.journal.specs.Journal.{Entry, encode, encodes, entriesIn, kept, added, areaOf}
 use Rattle.journal.specs.Laws.{Good, AllGood}
 use Rattle.journal.proofs.Codec.{Bytes, bytes-take, length-encode}
@@ -31,17 +32,18 @@ unfolding areaOf
 area-long size es h = simp (length-append, length-replicate) (omega arith)
 
 -- a journal of bytes that passed, with a good entry added that fits it, passes again
-pub journal-again : (n : ℕ) (j : List ℕ) (used : ℕ) (e : Entry) → Bytes j → Journal n j used → Good n e → 5 + length (e .old) ≤ length j
-    → journalFits n (areaOf (length j) (added (length j) (entriesIn n 0 (take used j)) e)) (length (encodes (added (length j) (entriesIn n 0 (take used j)) e))) ≡ true
+pub journal-again : (held : Held) (j : List ℕ) (used : ℕ) (e : Entry) → Bytes j → Journal held j used → Good held e → 5 + length (e .bytes) ≤ length j
+    → journalFits held (areaOf (length j) (added (length j) (entriesIn held 0 (take used j)) e))
+    (length (encodes (added (length j) (entriesIn held 0 (take used j)) e))) ≡ true
 unfolding journalFits
-journal-again n j used e bs f g h =
-    let old : List Entry = entriesIn n 0 (take used j) in
+journal-again held j used e bs f g h =
+    let old : List Entry = entriesIn held 0 (take used j) in
     let es : List Entry = added (length j) old e in
     let l : length (areaOf (length j) es) ≡ length j = area-long (length j) es (added-fits (length j) old e (rw (length-encode e) h)) in
-    let gs : AllGood n es = good-added n (length j) old e (encoding n (take used j) (bytes-take used j bs) (f .entries) .0) g in
-    let a = again n (length j) es (areaOf (length j) es) (length (encodes es)) (record { bytes = refl; used = refl }) gs in
+    let gs : AllGood held es = good-added held (length j) old e (encoding held (take used j) (bytes-take used j bs) (f .entries) .0) g in
+    let a = again held (length j) es (areaOf (length j) es) (length (encodes es)) (record { bytes = refl; used = refl }) gs in
     rw (
-      le-leb (40 * n + 300) (length (areaOf (length j) es)) (omega (arith, f .least)),
+      le-leb (40 * held .points + 300) (length (areaOf (length j) es)) (omega (arith, f .least)),
       le-leb (length (areaOf (length j) es)) 65536 (omega (arith, f .most)),
       le-leb (length (encodes es)) (length (areaOf (length j) es)) (a .within),
       a .good,

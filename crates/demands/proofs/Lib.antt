@@ -1,5 +1,6 @@
 pub mod Refused
 pub mod Sole
+pub mod Computing
 pub mod Worked
 pub mod Useless
 pub mod Replied

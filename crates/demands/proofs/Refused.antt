@@ -1,135 +1,118 @@
 -- Demand 1, from the table and the outcome.
-use Prim.Native.Nat.{ℕ, zero, suc, _≤_, _<_}
+use Prim.Native.Nat.{ℕ, _≤_, _<_}
 use mathlib.Core.Path.{_≡_, refl, sym, ap, _∙_, subst}
-use mathlib.Core.Bool.{Bool, true, false, cond, not}
-use mathlib.Core.List.{List, []}
+use mathlib.Core.Bool.{false}
+use mathlib.Core.List.{List, [], _∷_}
 use native.Mathlib.Omega.{arith}
-use lib.Dec.{eqb, leb, ltb}
+use lib.Dec.{eqb}
 use lib.ListN.{length, drop}
 use lib.Seq.{drop-at}
-use borrow.Author.Tests.{eq-eqb, ne-eqb, le-leb, lt-leb, eqb-true, eqb-false}
+use borrow.Author.Tests.{eqb-true, eqb-false}
 use Rattle.digits.specs.Laid.{laid}
+use Rattle.digits.proofs.Bools.{either}
 use Rattle.digits.proofs.Laid.{laid-nothing, laid-front}
-use Rattle.frames.specs.Frame.{contentIn, errorOf, shaped, sumPasses, stationPasses}
+use Rattle.frames.specs.Frame.{contentIn, errorOf}
 use Rattle.frames.proofs.Closing.{length-reply}
+use Rattle.areas.specs.declared.kinds.Held.{Held}
+use Rattle.messages.specs.declared.table.Named.{Named}
+use Rattle.messages.specs.declared.table.Named.the-variants.{Known, Unknown}
 use Rattle.messages.specs.declared.Asked.{Asked}
-use Rattle.messages.specs.declared.Asked.the-variants.{UnknownMessage, NotDigits, WrongLength, WrongProgram, CountZero, NotHeld, WrongPattern, TestCall, CountPoints, ListPoints, ReadColumns, AxisStatus, WritePoints, ClearPoints, ChangeColumns}
-use Rattle.messages.proofs.Readiness.{either}
-use Rattle.messages.specs.Layout.{messageOf, isUnknown}
-use Rattle.messages.specs.Asked.{askedOf, notDigits, wrongLength, wrongProgram, countZero, notHeld, wrongPattern}
-use Rattle.refusals.specs.Call.{Call, Outcome, heldIn}
-use Rattle.refusals.specs.Refusals.{pointsFit, journalFits, axesFit, refusalOf, silentOf, backRefusalOf}
-use Rattle.link.specs.Answer.{numberOf, unchanged, refused, done, answerOf, back, backOf}
-use Rattle.refusals.proofs.Rows.{three, five, seven, ownOf, saidOf, refusal-rows}
-use Rattle.link.proofs.Answering.{passed, spoken}
-use Rattle.demands.specs.Refused.{Left, OneNumber, ChangesNothing, OneReply, SameError, ErrorsAgree, writes, QueryChangesNothing}
+use Rattle.messages.specs.declared.Asked.the-variants.{Refused, Order}
+use Rattle.messages.specs.Rows.{Row, firstOf}
+use Rattle.messages.specs.Table.{messageOf}
+use Rattle.messages.specs.Asked.{askedRows, numberGiven}
+use Rattle.calls.specs.Calls.{Areas, Call, Outcome}
+use Rattle.refusals.specs.Refusals.{areaRows, frameRows, silentRows, silent, silentOf, backRefusalOf}
+use Rattle.link.specs.Answer.{held, asked, areasAfter, textOf, unanswered, answerOf, backOf}
+use Rattle.link.proofs.Answering.{frame-number, asked-number, heard-number}
+use Rattle.demands.specs.Refused.{OneNumber, ChangesNothing, OneReply, ErrorsAgree, asksWrite, QueryChangesNothing}
 
-abbrev pub asked : Call → Asked
-asked c = askedOf (heldIn (c .points)) (c .fitted) (c .frame)
-
--- an order is done with number 0
-done-number : (c : Call) (a : Asked) → done c a .number ≡ 0
-done-number c UnknownMessage = refl
-done-number c NotDigits = refl
-done-number c WrongLength = refl
-done-number c WrongProgram = refl
-done-number c CountZero = refl
-done-number c NotHeld = refl
-done-number c WrongPattern = refl
-done-number c TestCall = refl
-done-number c CountPoints = refl
-done-number c (ListPoints s k) = refl
-done-number c (ReadColumns s k) = refl
-done-number c (AxisStatus p) = refl
-done-number c (WritePoints s k) = refl
-done-number c (ClearPoints s k) = refl
-done-number c (ChangeColumns s k) = refl
-
-frame-number : (c : Call) → answerOf c .number ≡ refusalOf c
+-- an answer, by whether its frame was heard
+pub answer-either : (c : Call) (P : Outcome → Type 0)
+    → (silentOf c ≡ 0 → P (record { number = numberGiven (asked c); text = textOf c (asked c); areas = areasAfter c (asked c) }))
+    → ((silentOf c ≡ 0 → ⊥) → P (unanswered (silentOf c) (c .areas)))
+    → P (answerOf c)
 unfolding answerOf
-frame-number c =
-    either (λ (o : Outcome). o .number ≡ refusalOf c) (eqb (refusalOf c) 0) (λ e. done-number c (asked c) ∙ sym (eqb-true _ _ e)) (λ e. refl)
+answer-either c P f g = either P (eqb (silentOf c) 0) (λ e. f (eqb-true _ _ e)) (λ e. g (eqb-false _ _ e))
 
-back-number : (c : Call) → backOf c .number ≡ backRefusalOf c
+back-number : (a : Areas) → backOf a .number ≡ backRefusalOf a
 unfolding backOf
-back-number c = either (λ (o : Outcome). o .number ≡ backRefusalOf c) (eqb (backRefusalOf c) 0) (λ e. sym (eqb-true _ _ e)) (λ e. refl)
+back-number a = either (λ (o : Outcome). o .number ≡ backRefusalOf a) (eqb (backRefusalOf a) 0) (λ e. sym (eqb-true _ _ e)) (λ e. refl)
 
 pub one-number : OneNumber
 one-number = record { frame = frame-number; back = back-number }
 
--- where refused, the outcome is `refused`
-is-refused : (c : Call) → (answerOf c .number ≡ 0 → ⊥) → answerOf c ≡ refused c (refusalOf c)
-unfolding answerOf
-is-refused c n = rw (ne-eqb (refusalOf c) 0 (λ e. n (frame-number c ∙ e)))
-
-is-back : (c : Call) → (backOf c .number ≡ 0 → ⊥) → backOf c ≡ unchanged c (backRefusalOf c) []
-unfolding backOf
-is-back c n = rw (ne-eqb (backRefusalOf c) 0 (λ e. n (back-number c ∙ e)))
+-- what is refused changes nothing
+refused-left : (c : Call) (a : Asked) → (numberGiven a ≡ 0 → ⊥) → areasAfter c a ≡ c .areas
+refused-left c (Refused number) n = refl
+refused-left c (Order m start count) n = absurd (n refl)
 
 pub changes-nothing : ChangesNothing
+unfolding backOf
 changes-nothing =
     record {
-      frame = λ c n. rw (is-refused c n) (record { points = refl; columns = refl; journal = refl; used = refl });
-      back = λ c n. rw (is-back c n) (record { points = refl; columns = refl; journal = refl; used = refl });
+      frame = λ c.
+          answer-either c (λ (o : Outcome). (o .number ≡ 0 → ⊥) → o .areas ≡ c .areas) (λ _. refused-left c (asked c)) (λ _ _. refl);
+      back = λ a.
+          either (λ (o : Outcome). (o .number ≡ 0 → ⊥) → o .areas ≡ a) (eqb (backRefusalOf a) 0) (λ _ n. absurd (n refl)) (λ _ _. refl);
     }
 
--- the numbers of a frame: 0, 1 to 8, or from 101 on
-seven-range : (p q r s t u v : Bool) → 9 ≤ seven p q r s t u v → 101 ≤ seven p q r s t u v
-seven-range true q r s t u v h = omega arith
-seven-range false true r s t u v h = omega arith
-seven-range false false true s t u v h = omega arith
-seven-range false false false true t u v h = omega arith
-seven-range false false false false true u v h = omega arith
-seven-range false false false false false true v h = omega arith
-seven-range false false false false false false true h = omega arith
-seven-range false false false false false false false h = absurd (omega arith)
+-- what holds of 0, and of each row's number, holds of the number that is given
+abbrev EachNumber : (ℕ → Type 0) → List Row → Type 0
+EachNumber P [] = Unit
+EachNumber P (r ∷ rs) = P (r .number) × EachNumber P rs
 
-three-range : (p q r : Bool) (k : ℕ) → (9 ≤ k → 101 ≤ k) → 9 ≤ three p q r k → 101 ≤ three p q r k
-three-range true q r k f h = absurd (omega arith)
-three-range false true r k f h = absurd (omega arith)
-three-range false false true k f h = absurd (omega arith)
-three-range false false false k f h = f h
+number-given : (P : ℕ → Type 0) (rs : List Row) → P 0 → EachNumber P rs → P (firstOf rs)
+number-given P [] z h = z
+number-given P (r ∷ rs) z h = either P (r .holds) (λ _. h .0) (λ _. number-given P rs z (h .1))
 
-five-range : (p q r s t : Bool) (k : ℕ) → (9 ≤ k → 101 ≤ k) → 9 ≤ five p q r s t k → 101 ≤ five p q r s t k
-five-range true q r s t k f h = absurd (omega arith)
-five-range false true r s t k f h = absurd (omega arith)
-five-range false false true s t k f h = absurd (omega arith)
-five-range false false false true t k f h = absurd (omega arith)
-five-range false false false false true k f h = absurd (omega arith)
-five-range false false false false false k f h = f h
+-- the numbers of a frame: 1 to 8 without a reply, and from 101 on
+silent-low : (c : Call) → silentOf c ≤ 8
+unfolding silentOf silentRows areaRows frameRows
+silent-low c =
+    number-given (λ (k : ℕ). k ≤ 8) (silent c) (omega arith)
+    (omega arith, (omega arith, (omega arith, (omega arith, (omega arith, (omega arith, (omega arith, (omega arith, tt))))))))
 
-range : (c : Call) → 9 ≤ refusalOf c → 101 ≤ refusalOf c
-range c h =
-    subst (λ (k : ℕ). 101 ≤ k) (sym (refusal-rows c))
-    (five-range (ltb (length (c .reply)) 1024) (not (pointsFit (c .points))) (not (eqb (length (c .columns)) 700))
-    (not (journalFits (heldIn (c .points)) (c .journal) (c .used)))
-    (not (axesFit (c .eight) (c .records) (c .fitted)))
-    (ownOf c (saidOf c))
-    (three-range (not (shaped (c .frame))) (not (sumPasses (c .frame))) (not (stationPasses (c .station) (c .frame))) (saidOf c)
-    (seven-range (isUnknown (messageOf (c .frame))) (notDigits (messageOf (c .frame)) (contentIn (c .frame)))
-    (wrongLength (messageOf (c .frame)) (contentIn (c .frame)))
-    (wrongProgram (messageOf (c .frame)) (contentIn (c .frame)))
-    (countZero (messageOf (c .frame)) (contentIn (c .frame)))
-    (notHeld (heldIn (c .points)) (messageOf (c .frame)) (contentIn (c .frame)))
-    (wrongPattern (c .fitted) (messageOf (c .frame)) (contentIn (c .frame)))))
-    (subst (λ (k : ℕ). 9 ≤ k) (refusal-rows c) h))
+high : (held : Held) (fitted : ℕ) (n : Named) (content : List ℕ) → (firstOf (askedRows held fitted n content) ≡ 0 → ⊥)
+    → 101 ≤ firstOf (askedRows held fitted n content)
+unfolding askedRows
+high held fitted Unknown content k = omega arith
+high held fitted (Known m) content k =
+    number-given (λ (k : ℕ). (k ≡ 0 → ⊥) → 101 ≤ k) (askedRows held fitted (Known m) content) (λ n. absurd (n refl))
+    (λ _. omega arith, (λ _. omega arith, (λ _. omega arith, (λ _. omega arith, (λ _. omega arith, (λ _. omega arith, tt))))))
+    k
 
-some : (k : ℕ) → 101 ≤ k → k ≡ 0 → ⊥
-some k h e = omega arith
+asked-high : (c : Call) → (numberGiven (asked c) ≡ 0 → ⊥) → 101 ≤ numberGiven (asked c)
+asked-high c n =
+    rw (asked-number c)
+    (high (held c) (c .sent .settings .fitted) (messageOf (c .sent .frame)) (contentIn (c .sent .frame)) (λ e. n (asked-number c ∙ e)))
 
 text-none : (c : Call) → (answerOf c .number ≡ 0 → ⊥) → answerOf c .number < 100 → answerOf c .text ≡ []
-text-none c n h =
-    let l : refusalOf c < 101 = omega (arith, h, frame-number c) in
-    ap (λ (o : Outcome). o .text) (is-refused c n) ∙ rw (lt-leb 101 (refusalOf c) l)
+text-none c =
+    answer-either c (λ (o : Outcome). (o .number ≡ 0 → ⊥) → o .number < 100 → o .text ≡ []) (λ _ n l. absurd (omega (arith, l, asked-high c n)))
+    (λ _ _ _. refl)
 
-text-ten : (c : Call) → 101 ≤ answerOf c .number → answerOf c .text ≡ errorOf (c .station) (answerOf c .number)
-text-ten c h =
-    let l : 101 ≤ refusalOf c = omega (arith, h, frame-number c) in
-    ap (λ (o : Outcome). o .text) (is-refused c (some _ h)) ∙ rw (le-leb 101 (refusalOf c) l) (ap (errorOf (c .station)) (sym (frame-number c)))
+-- an error reply is its number's
+error-text : (c : Call) (a : Asked) → 101 ≤ numberGiven a → textOf c a ≡ errorOf (c .sent .settings .station) (numberGiven a)
+error-text c (Refused number) h = refl
+error-text c (Order m start count) h = absurd (omega arith)
 
-back-text : (c : Call) → backOf c .text ≡ []
+text-ten : (c : Call) → 101 ≤ answerOf c .number → answerOf c .text ≡ errorOf (c .sent .settings .station) (answerOf c .number)
+text-ten c =
+    answer-either c (λ (o : Outcome). 101 ≤ o .number → o .text ≡ errorOf (c .sent .settings .station) (o .number)) (λ _. error-text c (asked c))
+    (λ _ h. absurd (omega (arith, h, silent-low c)))
+
+ten-long : (c : Call) → 101 ≤ answerOf c .number → length (answerOf c .text) ≡ 10
+ten-long c h = ap length (text-ten c h) ∙ length-reply _ _ _
+
+no-other : (c : Call) → 9 ≤ answerOf c .number → 101 ≤ answerOf c .number
+no-other c =
+    answer-either c (λ (o : Outcome). 9 ≤ o .number → 101 ≤ o .number) (λ _ h. asked-high c (λ e. omega (arith, h, e)))
+    (λ _ h. absurd (omega (arith, h, silent-low c)))
+
+back-text : (a : Areas) → backOf a .text ≡ []
 unfolding backOf
-back-text c = either (λ (o : Outcome). o .text ≡ []) (eqb (backRefusalOf c) 0) (λ e. refl) (λ e. refl)
+back-text a = either (λ (o : Outcome). o .text ≡ []) (eqb (backRefusalOf a) 0) (λ _. refl) (λ _. refl)
 
 -- what stands beyond ten bytes laid at the front
 beyond : (area text : List ℕ) → length text ≡ 10 → drop 10 (laid area 0 text) ≡ drop 10 area
@@ -140,43 +123,24 @@ pub one-reply : OneReply
 one-reply =
     record {
       none = text-none;
-      ten = λ c h. (text-ten c h, ap length (text-ten c h) ∙ length-reply _ _ _);
-      area-left = λ c n h. ap (laid (c .reply) 0) (text-none c n h) ∙ laid-nothing (c .reply) 0;
-      beyond-ten = λ c h. beyond (c .reply) (answerOf c .text) (ap length (text-ten c h) ∙ length-reply _ _ _);
-      no-other = λ c h. subst (λ (k : ℕ). 101 ≤ k) (sym (frame-number c)) (range c (subst (λ (k : ℕ). 9 ≤ k) (frame-number c) h));
+      ten = λ c h. (text-ten c h, ten-long c h);
+      area-left = λ c n h. ap (laid (c .sent .reply) 0) (text-none c n h) ∙ laid-nothing (c .sent .reply) 0;
+      beyond-ten = λ c h. beyond (c .sent .reply) (answerOf c .text) (ten-long c h);
+      no-other = no-other;
       back = back-text;
     }
 
 pub errors-agree : ErrorsAgree
 errors-agree c d s =
+    let q : asked c ≡ asked d = cc in
     let n : answerOf c .number ≡ answerOf d .number =
-    frame-number c ∙ spoken c (passed c (s .heard .0))
-    ∙ rw (s .held, s .fitted, s .frame) refl
-    ∙ sym (spoken d (passed d (s .heard .1))) ∙ sym (frame-number d) in
+    frame-number c ∙ heard-number c (s .heard .0) ∙ ap numberGiven q ∙ sym (heard-number d (s .heard .1)) ∙ sym (frame-number d) in
     (n, λ h. text-ten c h ∙ rw (n, s .station) (sym (text-ten d (subst (λ (k : ℕ). 101 ≤ k) n h))))
 
-pub not-both : true ≡ false → ⊥
-not-both e = let z : _≡_ {A = ℕ} 1 0 = ap (λ (b : Bool). cond b 1 0) e in omega arith
-
 -- an order that does not write leaves all as it was
-done-left : (c : Call) (a : Asked) → writes a ≡ false → Left c (done c a)
-done-left c UnknownMessage e = record { points = refl; columns = refl; journal = refl; used = refl }
-done-left c NotDigits e = record { points = refl; columns = refl; journal = refl; used = refl }
-done-left c WrongLength e = record { points = refl; columns = refl; journal = refl; used = refl }
-done-left c WrongProgram e = record { points = refl; columns = refl; journal = refl; used = refl }
-done-left c CountZero e = record { points = refl; columns = refl; journal = refl; used = refl }
-done-left c NotHeld e = record { points = refl; columns = refl; journal = refl; used = refl }
-done-left c WrongPattern e = record { points = refl; columns = refl; journal = refl; used = refl }
-done-left c TestCall e = record { points = refl; columns = refl; journal = refl; used = refl }
-done-left c CountPoints e = record { points = refl; columns = refl; journal = refl; used = refl }
-done-left c (ListPoints s k) e = record { points = refl; columns = refl; journal = refl; used = refl }
-done-left c (ReadColumns s k) e = record { points = refl; columns = refl; journal = refl; used = refl }
-done-left c (AxisStatus p) e = record { points = refl; columns = refl; journal = refl; used = refl }
-done-left c (WritePoints s k) e = absurd (not-both e)
-done-left c (ClearPoints s k) e = absurd (not-both e)
-done-left c (ChangeColumns s k) e = absurd (not-both e)
+query-left : (c : Call) (a : Asked) → asksWrite a ≡ false → areasAfter c a ≡ c .areas
+query-left c (Refused number) e = refl
+query-left c (Order m start count) e = rw e
 
 pub query-changes-nothing : QueryChangesNothing
-unfolding answerOf
-query-changes-nothing c e =
-    either (Left c) (eqb (refusalOf c) 0) (λ _. done-left c (asked c) e) (λ _. record { points = refl; columns = refl; journal = refl; used = refl })
+query-changes-nothing c e = answer-either c (λ (o : Outcome). o .areas ≡ c .areas) (λ _. query-left c (asked c) e) (λ _. refl)

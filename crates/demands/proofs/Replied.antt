@@ -1,63 +1,62 @@
 -- Every reply is closed by `replyOf`.
-use Prim.Native.Nat.{ℕ, _≤_}
-use mathlib.Core.Path.{_≡_, refl, sym, ap, _∙_}
-use mathlib.Core.Bool.{Bool, true, false, cond}
+use Prim.Native.Nat.{ℕ}
+use mathlib.Core.Path.{_≡_, refl, ap, _∙_}
+use mathlib.Core.Bool.{false}
 use mathlib.Core.List.{List, [], _++_}
-use lib.Dec.{eqb, leb}
-use borrow.Author.Tests.{eq-eqb, ne-eqb, eqb-true, eqb-false, leb-true}
-use Rattle.frames.specs.Frame.{normal, error, errorOf, threeOf, messageIn, contentIn, replyOf}
+use borrow.Author.Tests.{ne-eqb}
+use Rattle.digits.specs.Digits.{isDigit, worthOf, byteOf}
+use Rattle.digits.specs.Text.{text}
+use Rattle.frames.specs.Frame.{normal, threeOf, messageIn, contentIn, replyOf}
 use Rattle.frames.proofs.Promised.{reply}
+use Rattle.messages.specs.declared.table.Follows.the-variants.{TenBytes}
+use Rattle.messages.specs.declared.table.Action.the-variants.{SayBack}
+use Rattle.messages.specs.declared.table.Message.{Message}
+use Rattle.messages.specs.declared.table.Named.the-variants.{Known}
 use Rattle.messages.specs.declared.Asked.{Asked}
-use Rattle.messages.specs.declared.Asked.the-variants.{UnknownMessage, NotDigits, WrongLength, WrongProgram, CountZero, NotHeld, WrongPattern, TestCall, CountPoints, ListPoints, ReadColumns, AxisStatus, WritePoints, ClearPoints, ChangeColumns}
-use Rattle.messages.proofs.Readiness.{either}
-use Rattle.refusals.specs.Call.{Call, Outcome, heldIn}
-use Rattle.refusals.specs.Refusals.{refusalOf}
-use Rattle.link.specs.Answer.{refused, done, answerOf}
-use Rattle.demands.specs.Refused.{OneNumber}
+use Rattle.messages.specs.declared.Asked.the-variants.{Refused, Order}
+use Rattle.messages.specs.Table.{row, messageNumbered, messageOf}
+use Rattle.messages.specs.Asked.{askedOf, numberGiven}
+use Rattle.messages.proofs.Judged.{refused-some, told}
+use Rattle.calls.specs.Calls.{Call, Outcome}
+use Rattle.link.specs.Answer.{held, asked, textOf}
+use Rattle.link.proofs.Answering.{accepted, heard-answer}
 use Rattle.demands.specs.Replied.{headerOf, Framed, EveryReply, TestCallBack}
-use Rattle.demands.proofs.Refused.{asked, one-number}
+use Rattle.demands.proofs.Refused.{answer-either}
 
-closed : (station : ℕ) (rest : List ℕ) → Framed 0 station (replyOf normal station rest)
-closed station rest = record { rest = rest; is = refl; law = reply normal station rest }
-
-done-framed : (c : Call) (a : Asked) → (done c a .text ≡ [] → ⊥) → Framed (done c a .number) (c .station) (done c a .text)
-done-framed c UnknownMessage n = absurd (n refl)
-done-framed c NotDigits n = absurd (n refl)
-done-framed c WrongLength n = absurd (n refl)
-done-framed c WrongProgram n = absurd (n refl)
-done-framed c CountZero n = absurd (n refl)
-done-framed c NotHeld n = absurd (n refl)
-done-framed c WrongPattern n = absurd (n refl)
-done-framed c TestCall n = closed (c .station) _
-done-framed c CountPoints n = closed (c .station) _
-done-framed c (ListPoints s k) n = closed (c .station) _
-done-framed c (ReadColumns s k) n = closed (c .station) _
-done-framed c (AxisStatus p) n = closed (c .station) _
-done-framed c (WritePoints s k) n = closed (c .station) _
-done-framed c (ClearPoints s k) n = closed (c .station) _
-done-framed c (ChangeColumns s k) n = closed (c .station) _
-
-error-framed : (k station : ℕ) → eqb k 0 ≡ false → Framed k station (errorOf station k)
-error-framed k station e =
-    record {
-      rest = threeOf k;
-      is = rw e;
-      law = reply (headerOf k) station (threeOf k);
-    }
-
-refused-framed : (c : Call) (k : ℕ) (b : Bool) → eqb k 0 ≡ false → (cond b (errorOf (c .station) k) [] ≡ [] → ⊥) → Framed k (c .station) (cond b (errorOf (c .station) k) [])
-refused-framed c k true e n = error-framed k (c .station) e
-refused-framed c k false e n = absurd (n refl)
+-- what is asked is answered by a reply: no refusal has number 0
+asked-framed : (c : Call) (a : Asked) → (a ≡ Refused 0 → ⊥) → Framed (numberGiven a) (c .sent .settings .station) (textOf c a)
+asked-framed c (Refused k) n =
+    record { rest = threeOf k; is = rw (ne-eqb k 0 (λ e. n (ap Refused e))); law = reply (headerOf k) (c .sent .settings .station) (threeOf k) }
+asked-framed c (Order m start count) n = record { rest = _; is = refl; law = reply normal (c .sent .settings .station) _ }
 
 pub every-reply : EveryReply
-unfolding answerOf
 every-reply c =
-    either (λ (o : Outcome). (o .text ≡ [] → ⊥) → Framed (o .number) (c .station) (o .text)) (eqb (refusalOf c) 0)
-    (λ e. done-framed c (asked c))
-    (λ e. refused-framed c (refusalOf c) (leb 101 (refusalOf c)) e)
+    answer-either c (λ (o : Outcome). (o .text ≡ [] → ⊥) → Framed (o .number) (c .sent .settings .station) (o .text))
+    (λ _ _. asked-framed c (asked c) (refused-some (held c) (c .sent .settings .fitted) (c .sent .frame)))
+    (λ _ n. absurd (n refl))
+
+-- 200H is the table's first row
+abbrev testCall : Message
+testCall = row 0x200 0 0 0 0 TenBytes SayBack false
+
+is-test : (frame : List ℕ) → messageIn frame ≡ text "200" → messageOf frame ≡ Known testCall
+unfolding messageOf messageNumbered isDigit worthOf
+is-test frame e = rw e
+
+row-of : (c : Call) (m : Message) (start count : ℕ) → messageOf (c .sent .frame) ≡ Known testCall → asked c ≡ Order m start count → testCall ≡ m
+unfolding askedOf
+row-of c m start count e q =
+    let t = told (held c) (c .sent .settings .fitted) (messageOf (c .sent .frame)) (contentIn (c .sent .frame)) m start count q .message in
+    cc
+
+said-back : (c : Call) (m : Message) (start count : ℕ) → testCall ≡ m
+    → textOf c (Order m start count) ≡ replyOf normal (c .sent .settings .station) (text "200" ++ contentIn (c .sent .frame))
+unfolding byteOf
+said-back c m start count e = rw (← e)
 
 pub test-call-back : TestCallBack
-unfolding answerOf
-test-call-back c a n =
-    let e : refusalOf c ≡ 0 = sym (one-number .frame c) ∙ n in
-    rw (e, a)
+test-call-back c e n =
+    let a = accepted c n in
+    ap (λ (o : Outcome). o .text) (heard-answer c (a .heard)) ∙ ap (textOf c) (a .order)
+    ∙ said-back c (a .message) (a .start) (a .count) (row-of c (a .message) (a .start) (a .count) (is-test (c .sent .frame) e) (a .order))
+    ∙ rw e

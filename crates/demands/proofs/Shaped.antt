@@ -1,84 +1,132 @@
 -- Areas of document 01's lengths whose journal holds good entries: no test of an area refuses them.
-use Prim.Native.Nat.{ℕ, _+_, _-_, _*_, _/_, _%_, _≤_, _<_}
-use mathlib.Core.Path.{_≡_, refl, sym, ap, ap₂, _∙_}
+use Prim.Native.Nat.{ℕ, _+_, _*_, _/_, _%_, _≤_}
+use mathlib.Core.Path.{_≡_, refl, ap, ap₂, _∙_}
 use mathlib.Core.Bool.{Bool, true, false, cond, not, _&&_}
-use mathlib.Core.List.{List, [], _∷_, _++_}
+use mathlib.Core.List.{List, []}
 use native.Mathlib.Omega.{arith}
-use lib.Dec.{eqb, leb, ltb}
-use lib.ListN.{length, take}
-use borrow.Author.Tests.{eq-eqb, ne-eqb, le-leb}
-use Rattle.journal.specs.Journal.{Entry, encodes, entriesIn}
+use lib.Dec.{eqb, ltb}
+use lib.ListN.{length}
+use borrow.Author.Tests.{eq-eqb, le-leb}
+use Rattle.frames.specs.Frame.{contentIn}
+use Rattle.areas.specs.declared.kinds.Held.{Held}
+use Rattle.areas.specs.Kinds.{Sound, pointsTag, columnsTag, pointsOf, columnsOf, kindOf, sizeOf}
+use Rattle.areas.proofs.Known.{kind-points, kind-columns}
+use Rattle.journal.specs.Journal.{Entry, encodes}
 use Rattle.journal.specs.Laws.{AllGood}
 use Rattle.journal.specs.Laws as journal
 use Rattle.journal.proofs.Again.{Again, again}
-use Rattle.messages.specs.Asked.{askedOf}
-use Rattle.refusals.specs.Call.{Call, Outcome, heldIn}
+use Rattle.messages.specs.Rows.{firstOf}
+use Rattle.messages.specs.Table.{messageOf}
+use Rattle.messages.specs.Asked.{askedRows, askedOf}
+use Rattle.calls.specs.Calls.{Areas, Sent, lengthsOf, heldIn, areaIn, entriesOf}
 use Rattle.refusals.specs.Refusals.{pointsFit, journalFits, axesFit, refusalOf, backRefusalOf}
-use Rattle.link.specs.Answer.{answerOf, backOf}
-use Rattle.refusals.proofs.Rows.{refusal-rows, back-rows}
-use Rattle.demands.specs.Refused.{writes}
-use Rattle.demands.specs.History.{ours, Areas, Sent, callOn, backOn, acceptedWrite, entries}
+use Rattle.refusals.proofs.Rows.{AreasPass, past-areas, back-rows, frameNumber, refusal-is}
+use Rattle.demands.specs.Refused.{asksWrite}
+use Rattle.demands.specs.History.{ours, callOn, acceptedWrite, entries}
 use Rattle.demands.proofs.Refused.{one-number}
 use Rattle.demands.proofs.Journals.{area-long}
 
 -- the lengths that document 01 asks
-pub record Bounds (n size : ℕ) : Type 0 where
-  pub some : 1 ≤ n
-  pub most : n ≤ 1500
-  pub least : 40 * n + 300 ≤ size
+pub record Bounds (held : Held) (size : ℕ) : Type 0 where
+  pub some : 1 ≤ held .points
+  pub most : held .points ≤ 1500
+  pub least : 40 * held .points + 300 ≤ size
   pub largest : size ≤ 65536
 
-pub record Shape (n size : ℕ) (a : Areas) (es : List Entry) : Type 0 where
-  pub points-long : length (a .points) ≡ n * 40
-  pub columns-long : length (a .columns) ≡ 700
-  pub holds : journal.Holds size es (a .journal) (a .used)
-  pub good : AllGood n es
+pub record Shape (held : Held) (size : ℕ) (a : Areas) (es : List Entry) : Type 0 where
+  pub long : (tag : ℕ) → length (areaIn tag a) ≡ sizeOf (kindOf held tag)
+  pub holds : journal.Holds size es (a .journal) (a .kept .used)
+  pub good : AllGood held es
   pub fits : length (encodes es) ≤ size
 
-module _ {n size : ℕ} (b : Bounds n size) {a : Areas} {es : List Entry} (h : Shape n size a es) where
-  pub held : heldIn (a .points) ≡ n
-  held = omega (arith, h .points-long)
+-- each kind's area is as long as it should, and there is none of any other tag
+pub each-long : (held : Held) (a : Areas) → length (a .points) ≡ sizeOf (pointsOf held) → length (a .columns) ≡ sizeOf columnsOf → (tag : ℕ)
+    → length (areaIn tag a) ≡ sizeOf (kindOf held tag)
+unfolding kindOf
+each-long held a p c tag = go (eqb tag pointsTag) (eqb tag columnsTag)
+  where
+    go : (x y : Bool)
+        → length (cond x (a .points) (cond y (a .columns) []))
+        ≡ sizeOf (cond x (pointsOf held) (cond y columnsOf (record { tag = tag; first = 0; unit = 1; held = 0; most = 0 })))
+    go true y = p
+    go false true = c
+    go false false = refl
 
-  pub journal-long : length (a .journal) ≡ size
-  journal-long = ap length (h .holds .bytes) ∙ area-long size es (h .fits)
+-- whether a board that holds so much accepts a frame as a write, and the number that it gives, whatever stands in such areas
+abbrev pub numberOn : Held → Sent → ℕ
+numberOn held s =
+    cond (ltb (length (s .reply)) 1024) 1
+    (cond (not (axesFit (s .axes) (s .settings .fitted))) 5
+    (frameNumber (s .settings .station) (s .frame) (firstOf (askedRows held (s .settings .fitted) (messageOf (s .frame)) (contentIn (s .frame))))))
 
-  held-again : Again n es (a .journal) (a .used)
-  held-again = again n size es (a .journal) (a .used) (h .holds) (h .good)
+abbrev pub takes : Held → Sent → Bool
+takes held s = eqb (numberOn held s) 0 && asksWrite (askedOf held (s .settings .fitted) (s .frame))
 
-  -- what is read is what is held
-  pub same-entries : entries a ≡ es
-  same-entries = ap (λ (m : ℕ). entriesIn m 0 (take (a .used) (a .journal))) held ∙ held-again .same
+module _ {held : Held} {size : ℕ} (b : Bounds held size) where
+  pub sound : Sound held
+  sound = record { points = b .most }
 
-  points-pass : pointsFit (a .points) ≡ true
-  unfolding pointsFit
-  points-pass =
-      let l = h .points-long in
-      let s = b .some in
-      let m = b .most in
-      rw (eq-eqb (length (a .points) % 40) 0 (omega arith), le-leb 40 (length (a .points)) (omega arith), le-leb (length (a .points)) 60000 (omega arith))
+  module _ {a : Areas} {es : List Entry} (h : Shape held size a es) where
+    points-long : length (a .points) ≡ held .points * 40
+    points-long = h .long pointsTag ∙ ap sizeOf (kind-points held)
 
-  journal-pass : journalFits n (a .journal) (a .used) ≡ true
-  unfolding journalFits
-  journal-pass =
-      let l = journal-long in
-      rw (le-leb (40 * n + 300) (length (a .journal)) (omega (arith, b .least, l)), le-leb (length (a .journal)) 65536 (omega (arith, b .largest, l)), le-leb _ _ (held-again .within), held-again .good)
+    columns-long : length (a .columns) ≡ 700
+    columns-long = h .long columnsTag ∙ ap sizeOf (kind-columns held)
 
-  pub journal-passes : journalFits (heldIn (a .points)) (a .journal) (a .used) ≡ true
-  journal-passes = ap (λ (m : ℕ). journalFits m (a .journal) (a .used)) held ∙ journal-pass
+    pub held-is : heldIn (lengthsOf a) ≡ held
+    held-is = let n : length (a .points) / 40 ≡ held .points = omega (arith, points-long) in λ i. record { points = n i }
 
-  pub back-is : backRefusalOf (backOn a) ≡ cond (eqb (a .used) 0) 9 0
-  back-is = back-rows (backOn a) ∙ rw (points-pass, eq-eqb _ _ (h .columns-long), journal-passes)
+    pub journal-long : length (a .journal) ≡ size
+    journal-long = ap length (h .holds .bytes) ∙ area-long size es (h .fits)
 
--- a frame's number is the same on all such areas
-module _ {n size : ℕ} (b : Bounds n size) {a a′ : Areas} {es es′ : List Entry} (h : Shape n size a es) (h′ : Shape n size a′ es′) (s : Sent) where
-  same-refusal : refusalOf (callOn a s) ≡ refusalOf (callOn a′ s)
-  same-refusal =
-      refusal-rows (callOn a s)
-      ∙ rw (points-pass b h, eq-eqb _ _ (h .columns-long), journal-passes b h, held b h, points-pass b h′, eq-eqb _ _ (h′ .columns-long), journal-passes b h′, held b h′) refl
-      ∙ sym (refusal-rows (callOn a′ s))
+    held-again : Again held es (a .journal) (a .kept .used)
+    held-again = again held size es (a .journal) (a .kept .used) (h .holds) (h .good)
 
-  pub same-accepted : acceptedWrite ours a s ≡ acceptedWrite ours a′ s
-  same-accepted =
-      ap₂ (λ (k m : ℕ). eqb k 0 && writes (askedOf m (s .fitted) (s .frame)))
-      (one-number .frame (callOn a s) ∙ same-refusal ∙ sym (one-number .frame (callOn a′ s)))
-      (held b h ∙ sym (held b h′))
+    -- what is read is what is held
+    pub entries-held : entriesOf held a ≡ es
+    entries-held = held-again .same
+
+    pub same-entries : entries a ≡ es
+    same-entries = ap (λ (x : Held). entriesOf x a) held-is ∙ entries-held
+
+    points-pass : pointsFit (length (a .points)) ≡ true
+    unfolding pointsFit
+    points-pass =
+        let l = points-long in
+        let s = b .some in
+        let m = b .most in
+        rw (eq-eqb (length (a .points) % 40) 0 (omega arith), le-leb 40 (length (a .points)) (omega arith), le-leb (length (a .points)) 60000 (omega arith))
+
+    journal-pass : journalFits held (a .journal) (a .kept .used) ≡ true
+    unfolding journalFits
+    journal-pass =
+        let l = journal-long in
+        rw (
+          le-leb (40 * held .points + 300) (length (a .journal)) (omega (arith, b .least, l)),
+          le-leb (length (a .journal)) 65536 (omega (arith, b .largest, l)),
+          le-leb _ _ (held-again .within),
+          held-again .good,
+        )
+
+    pub passes : AreasPass (lengthsOf a) (a .journal) (a .kept)
+    passes =
+        record {
+          points = points-pass;
+          columns = eq-eqb _ _ columns-long;
+          journal-fits = ap (λ (x : Held). journalFits x (a .journal) (a .kept .used)) held-is ∙ journal-pass;
+        }
+
+    pub back-is : backRefusalOf a ≡ cond (eqb (a .kept .used) 0) 9 0
+    unfolding backRefusalOf
+    back-is = back-rows (lengthsOf a) (a .journal) (a .kept) ∙ past-areas (lengthsOf a) (a .journal) (a .kept) passes (cond (eqb (a .kept .used) 0) 9 0)
+
+    -- a frame's number, and whether it is taken as a write, is the same on all such areas
+    number-is : (s : Sent) → refusalOf (callOn a s) ≡ numberOn held s
+    number-is s =
+        refusal-is (callOn a s)
+        ∙ ap (λ (k : ℕ). cond (ltb (length (s .reply)) 1024) 1 k) (past-areas (lengthsOf a) (a .journal) (a .kept) passes _)
+        ∙ ap (λ (x : Held). numberOn x s) held-is
+
+    pub takes-is : (s : Sent) → acceptedWrite ours a s ≡ takes held s
+    takes-is s =
+        ap₂ (λ (k : ℕ) (x : Held). eqb k 0 && asksWrite (askedOf x (s .settings .fitted) (s .frame))) (one-number .frame (callOn a s) ∙ number-is s) held-is

@@ -8,13 +8,15 @@ use native.Mathlib.Omega.{arith}
 use lib.Bits.{bitAnd}
 use lib.Dec.{leb, eqb}
 use lib.IntN.{pos}
-use lib.ListN.{length, take, drop, getD, replicate, length-append, length-drop, take-append-drop, replicate-append-replicate, List·getD-append}
+use lib.ListN.{length, take, drop, getD, replicate, length-drop, take-append-drop, replicate-append-replicate, List·getD-append}
 use lib.Seq.{length-take-le, take-take, take-append-le, drop-append-le, drop-at, drop-drop}
 use borrow.Author.Tests.{leb-true, not-true}
 use Rattle.digits.specs.Digits.{digitsOf, allDigits, numberOf}
 use Rattle.digits.proofs.Inverse.{and-left, and-right}
 use Rattle.digits.specs.Laid.{laid}
+use Rattle.areas.specs.declared.kinds.Held.{Held}
 use Rattle.areas.specs.Kinds.{pointsOf, holds, runOf, put}
+use Rattle.areas.proofs.Known.{within}
 use Rattle.points.specs.Units.{position}
 use Rattle.points.specs.Axes.{axesFrom, axesOf}
 use Rattle.points.specs.Point.{positionOf, positionsOf, pointOf, lengthOf, fillsOf, slotOf, slotsOf, positionsIn, pointIn, effectiveIn, pointDigits}
@@ -22,11 +24,10 @@ use Rattle.points.proofs.Measured.{least}
 use Rattle.points.proofs.Parts.{all-take, all-drop}
 use Rattle.points.proofs.Slotted.{length-pointSlot}
 use Rattle.points.proofs.Promised.{slot, every-digit}
-use Rattle.messages.specs.Layout.{patternFits, patternsFit}
+use Rattle.messages.specs.Table.{patternFits, patternsFit}
 use Rattle.queries.specs.Replies.{listing, listed}
-use Rattle.writes.proofs.Held.{within}
 use Rattle.demands.specs.Survive.{sent, fitting}
-use Rattle.demands.proofs.Written.{same-part}
+use Rattle.demands.proofs.Asking.{same-part}
 
 -- the positions that stand in bytes do not depend on what stands behind them
 positions-front : (axes : ℕ) (s r : List ℕ) → 4 * axes ≤ length s → positionsIn axes (s ++ r) ≡ positionsIn axes s
@@ -184,14 +185,6 @@ listed-sent fitted (suc count) room number digits rest f a p =
     ∙ ap (λ (x : List (List ℕ)). cond (leb (length s) room) (s ∷ x) [])
     (listed-sent fitted count (room - length s) (suc number) digits′ rest (rest-fills fitted count digits f) (all-drop (lengthOf digits) digits a) (rest-patterns fitted count digits p))
 
--- slots have forty bytes each
-pub slots-long : (count : ℕ) (digits : List ℕ) → length (slotsOf count digits) ≡ count * 40
-unfolding slotsOf
-slots-long zero digits = refl
-slots-long (suc count) digits =
-    let n = slots-long count (drop (lengthOf digits) digits) in
-    length-append (slotOf (pointOf digits)) (slotsOf count (drop (lengthOf digits) digits)) ∙ omega (arith, length-pointSlot digits)
-
 -- each point that was sent is effective
 pub effective-sent : (fitted count : ℕ) (digits : List ℕ) → patternsFit fitted count digits ≡ true → effectiveIn count (slotsOf count digits) ≡ count
 unfolding effectiveIn slotsOf
@@ -240,11 +233,11 @@ effective-three n at count s t u h l k =
     ∙ ap (λ (x : ℕ). effectiveIn at s + x) (effective-parts count (n - (at + count)) t u k)
 
 -- slots put over others: each effective one counts once
-pub effective-put : (n start count : ℕ) (bytes area : List ℕ) → holds (pointsOf n) start count ≡ true → length area ≡ n * 40 → length bytes ≡ count * 40
-    → effectiveIn n (put (pointsOf n) start bytes area) + effectiveIn count (runOf (pointsOf n) start count area) ≡ effectiveIn n area + effectiveIn count bytes
+pub effective-put : (h : Held) (start count : ℕ) (bytes area : List ℕ) → holds (pointsOf h) start count ≡ true → length area ≡ h .points * 40 → length bytes ≡ count * 40
+    → effectiveIn (h .points) (put (pointsOf h) start bytes area) + effectiveIn count (runOf (pointsOf h) start count area) ≡ effectiveIn (h .points) area + effectiveIn count bytes
 unfolding put runOf laid
-effective-put n start count bytes area h l k =
-    let w = within (pointsOf n) start count h in
+effective-put h start count bytes area e l k =
+    let w = within (pointsOf h) start count e in
     let at : ℕ = start - 1 in
     let s : List ℕ = take (at * 40) area in
     let t : List ℕ = take (count * 40) (drop (at * 40) area) in
@@ -255,6 +248,6 @@ effective-put n start count bytes area h l k =
     sym (take-append-drop (at * 40) area)
     ∙ ap (λ (x : List ℕ). s ++ x) (sym (take-append-drop (count * 40) (drop (at * 40) area)) ∙ ap (λ (x : List ℕ). t ++ x) (drop-drop (count * 40) (at * 40) area)) in
     let new : s ++ (bytes ++ drop (at * 40 + length bytes) area) ≡ s ++ (bytes ++ u) = ap (λ (x : ℕ). s ++ (bytes ++ drop (at * 40 + x) area)) k in
-    let a = ap (effectiveIn n) new ∙ effective-three n at count s bytes u (omega arith) ls k in
-    let b = ap (effectiveIn n) old ∙ effective-three n at count s t u (omega arith) ls lt in
+    let a = ap (effectiveIn (h .points)) new ∙ effective-three (h .points) at count s bytes u (omega arith) ls k in
+    let b = ap (effectiveIn (h .points)) old ∙ effective-three (h .points) at count s t u (omega arith) ls lt in
     omega arith

@@ -1,200 +1,172 @@
 -- 244H or 246H, then 209H and 208H; with codes, every digit survives.
-use Prim.Native.Nat.{ℕ, _+_, _-_, _*_, _/_, _≤_}
-use mathlib.Core.Path.{_≡_, refl, ap, ap₂, _∙_}
-use mathlib.Core.Bool.{true}
+use Prim.Native.Nat.{ℕ, _+_, _-_, _*_, _≤_}
+use mathlib.Core.Path.{_≡_, refl, sym, ap, _∙_, subst}
+use mathlib.Core.Bool.{Bool, true}
 use mathlib.Core.List.{List, [], _++_}
 use native.Mathlib.Omega.{arith}
-use native.Mathlib.Nat.{add-zero}
-use lib.ListN.{length, take, drop, replicate, length-take, length-replicate}
-use lib.Seq.{length-take-le, drop-at}
-use borrow.Author.Tests.{eq-eqb, eqb-true, not-false}
-use Rattle.digits.specs.Digits.{byteOf, digitsOf, numberOf}
+use lib.ListN.{length, take, drop, length-take, length-drop}
+use lib.Seq.{length-take-le, take-all, drop-at}
+use borrow.Author.Tests.{eqb-true}
+use Rattle.digits.specs.Digits.{byteOf, digitsOf}
 use Rattle.digits.specs.Laid.{laid}
 use Rattle.digits.specs.Text.{text}
-use Rattle.frames.specs.Frame.{normal, messageIn, contentIn, replyOf}
-use Rattle.areas.specs.Kinds.{pointsOf, holds, put}
-use Rattle.journal.proofs.Codec.{Bytes}
-use Rattle.points.specs.Point.{slotsOf, effectiveIn}
-use Rattle.points.proofs.Parts.{all-take, all-drop}
-use Rattle.messages.specs.declared.Message.the-variants.{Count, Points, Write, Clear}
-use Rattle.messages.specs.Layout.{startOf, countOf, patternsFit}
-use Rattle.messages.specs.Asked.{orderOf}
-use Rattle.messages.proofs.Readiness.{Ready}
-use Rattle.queries.specs.Replies.{listed, joined, listText}
-use Rattle.writes.proofs.Held.{within}
-use Rattle.refusals.specs.Call.{Call, heldIn}
-use Rattle.link.specs.Answer.{answerOf, wrotePoints}
-use Rattle.link.proofs.Answering.{Passed}
+use Rattle.digits.proofs.Bools.{was-not}
+use Rattle.areas.specs.declared.kinds.Held.{Held}
+use Rattle.areas.specs.Kinds.{pointsTag, pointsOf, holds, put}
+use Rattle.areas.proofs.Known.{kind-points, within}
+use Rattle.points.specs.Point.{effectiveIn}
+use Rattle.points.proofs.Parts.{all-drop}
+use Rattle.messages.specs.declared.table.Follows.{Follows}
+use Rattle.messages.specs.declared.table.Follows.the-variants.{Nothing, Points}
+use Rattle.messages.specs.declared.table.Action.{Action}
+use Rattle.messages.specs.declared.table.Action.the-variants.{ListPoints, WritePoints, ClearRun}
+use Rattle.messages.specs.declared.table.Message.{Message}
+use Rattle.messages.specs.declared.table.Named.the-variants.{Known}
+use Rattle.messages.specs.Table.{row, startIn, countIn, patternsFit}
+use Rattle.messages.proofs.Judged.{Right}
+use Rattle.queries.specs.Replies.{listed, joined}
+use Rattle.calls.specs.declared.Lengths.{Lengths}
+use Rattle.calls.specs.Calls.{Call, heldIn}
+use Rattle.refusals.specs.Refusals.{silentOf}
+use Rattle.link.specs.Answer.{held, rest, writes, newBytes, answerOf}
 use Rattle.link.proofs.Carrying.{fine}
-use Rattle.demands.specs.Survive.{Accepted, Outside, Says, listedOf, effectiveBefore, PointsSurvive, PointsCleared, EveryDigitSurvives}
-use Rattle.demands.proofs.Commands.{named}
-use Rattle.demands.proofs.Asking.{Right, ready-order, Took, took, Lasting, says}
-use Rattle.demands.proofs.Written.{same-part, outside, ID-short, reply-short, points-last}
+use Rattle.demands.specs.Survive.{content, startOf, countOf, Accepted, Says, listedOf, effectiveOf, effectiveNamed, Counted, PointsSurvive, PointsCleared, EveryDigitSurvives}
+use Rattle.demands.proofs.Commands.{counting, listing, writing, clearing, row-of, rows, named}
+use Rattle.demands.proofs.Asking.{Took, took, Lasting, says, same-start, same-count, query-right}
+use Rattle.demands.proofs.Written.{wrote, lasts, only-named}
 use Rattle.demands.proofs.Codes.{codes-survive}
-use Rattle.demands.proofs.Slots.{listed-sent, slots-long, effective-sent, listed-zero, effective-zero, effective-put}
+use Rattle.demands.proofs.Slots.{listed-sent, effective-sent, listed-zero, effective-zero, effective-put}
 
--- a 208H has no content to test
-count-right : (n fitted : ℕ) → Right n fitted Count []
-count-right n fitted = record { known = refl; digits = refl; long = refl; program = refl; some = refl; held = refl; pattern = refl }
+-- a 208H has no content to test, and says how many slots of those that are left are effective
+count-said : (c : Call) → silentOf c ≡ 0 → Lasting c → Says c (text "208") (text "208" ++ digitsOf 3 (effectiveOf (answerOf c .areas)))
+unfolding byteOf
+count-said c z l =
+    says c (text "208") (text "208" ++ digitsOf 3 (effectiveOf (answerOf c .areas))) counting z l (omega arith) (omega arith) (named .0)
+    (record { digits = refl; long = refl; program = refl; some = refl; held-all = refl; pattern = refl })
+    (λ frame. refl)
 
--- after a call it says how many slots are effective
-count-said : (c : Call) → Passed c → Lasting c (answerOf c) → Says c (text "208") (text "208" ++ digitsOf 3 (effectiveIn (heldIn (c .points)) (answerOf c .points)))
-count-said c p l =
-    says c (text "208") (text "208" ++ digitsOf 3 (effectiveIn (heldIn (c .points)) (answerOf c .points))) Count p l refl (omega arith) (omega arith) (named .0) (count-right (heldIn (c .points)) (c .fitted))
-    (λ frame h.
-    ap (replyOf normal (c .station))
-    (ap₂ (λ (x : List ℕ) (y : ℕ). x ++ digitsOf 3 (effectiveIn (y / 40) (answerOf c .points))) (h .message) (l .points-long)))
-
--- what a 209H says: how many are listed, then each
-list-text : (frame points : List ℕ) (start count : ℕ) (ls : List (List ℕ)) → messageIn frame ≡ text "209" → listed 1011 count start (drop ((start - 1) * 40) points) ≡ ls
-    → listText frame start count points ≡ text "209" ++ (digitsOf 3 (length ls) ++ joined ls)
-list-text frame points start count ls e f = ap₂ (λ (x : List ℕ) (y : List (List ℕ)). x ++ (digitsOf 3 (length y) ++ joined y)) e f
-
--- after a call it says that of the points that are left
-list-said : (c : Call) (s : List ℕ) (ls : List (List ℕ)) → Passed c → Lasting c (answerOf c) → Right (heldIn (c .points)) (c .fitted) Points s → length s ≤ 6
-    → listed 1011 (countOf Points s) (startOf Points s) (drop ((startOf Points s - 1) * 40) (answerOf c .points)) ≡ ls
+-- what a 209H lists of the points that are left, from the slots that it names on
+list-said : (c : Call) (s : List ℕ) (ls : List (List ℕ)) → silentOf c ≡ 0 → Lasting c → Right (held c) (c .sent .settings .fitted) listing s → length s ≤ 6
+    → listed 1011 (countIn listing s) (startIn listing s) (drop ((startIn listing s - 1) * 40) (answerOf c .areas .points)) ≡ ls
     → Says c (text "209" ++ s) (text "209" ++ (digitsOf 3 (length ls) ++ joined ls))
-list-said c s ls p l r h e =
-    says c (text "209" ++ s) (text "209" ++ (digitsOf 3 (length ls) ++ joined ls)) Points p l refl (omega arith) (omega arith) (named .1) r
-    (λ frame m. ap (replyOf normal (c .station)) (list-text frame (answerOf c .points) (startOf Points s) (countOf Points s) ls (m .message) e))
+unfolding byteOf
+list-said c s ls z l r h e =
+    says c (text "209" ++ s) (text "209" ++ (digitsOf 3 (length ls) ++ joined ls)) listing z l (omega arith) (omega arith) (named .1) r
+    (λ frame. ap (λ (x : List (List ℕ)). text "209" ++ (digitsOf 3 (length x) ++ joined x)) e)
 
 -- where a held run was put, it stands, and what was behind it
-put-there : (n start count : ℕ) (bytes area : List ℕ) → holds (pointsOf n) start count ≡ true → length area ≡ n * 40
-    → drop ((start - 1) * 40) (put (pointsOf n) start bytes area) ≡ bytes ++ drop ((start - 1) * 40 + length bytes) area
+put-there : (h : Held) (start count : ℕ) (bytes area : List ℕ) → holds (pointsOf h) start count ≡ true → length area ≡ h .points * 40
+    → drop ((start - 1) * 40) (put (pointsOf h) start bytes area) ≡ bytes ++ drop ((start - 1) * 40 + length bytes) area
 unfolding put laid
-put-there n start count bytes area h l =
-    let w = within (pointsOf n) start count h in
+put-there h start count bytes area e l =
+    let w = within (pointsOf h) start count e in
     drop-at (take ((start - 1) * 40) area) (bytes ++ drop ((start - 1) * 40 + length bytes) area) ((start - 1) * 40)
     (length-take-le ((start - 1) * 40) area (omega arith))
 
--- of a 244H's content, the first six digits say to a 209H the same start
-same-start : (s : List ℕ) → startOf Points (take 6 s) ≡ startOf Write s
-same-start s = ap numberOf (same-part 3 0 6 s (omega arith))
+-- a message that writes slots
+module _ (id : ℕ) (follows : Follows) (does : Action) (repeats : Bool) where
+  abbrev slots : Message
+  slots = row id 0 3 3 pointsTag follows does repeats
 
--- and the same count
-same-count : (s : List ℕ) → countOf Points (take 6 s) ≡ countOf Write s
-same-count s = ap numberOf (same-part 3 3 6 s (omega arith))
+  module _ (c : Call) (t : Took slots c) (w : writes does ≡ true) (l : Lasting c) where
+    -- its bytes
+    abbrev new : List ℕ
+    new = newBytes does 40 (countOf slots c) (rest c slots)
 
--- a 209H with them passes the tests that the 244H passed
-list-right : (n fitted : ℕ) (s : List ℕ) → Right n fitted Write s → Right n fitted Points (take 6 s)
-list-right n fitted s r =
-    let c = ready-order n fitted Write s r in
+    -- its run is held, its bytes are as many, and they are put there
+    run-held : holds (pointsOf (held c)) (startOf slots c) (countOf slots c) ≡ true
+    run-held = rw (kind-points (held c)) at (wrote slots c t w .run .run .held-all)
+
+    as-many : length new ≡ countOf slots c * 40
+    as-many = rw (kind-points (held c)) at (wrote slots c t w .run .long)
+
+    stored : answerOf c .areas .points ≡ put (pointsOf (held c)) (startOf slots c) new (c .areas .points)
+    stored = rw (kind-points (held c)) at (wrote slots c t w .own)
+
+    area-long : length (c .areas .points) ≡ held c .points * 40
+    area-long = omega (arith, fine c (t .heard) .points .whole-slots)
+
+    -- they stand where a 209H looks
+    there : drop ((startOf slots c - 1) * 40) (answerOf c .areas .points) ≡ new ++ drop ((startOf slots c - 1) * 40 + length new) (c .areas .points)
+    there = ap (drop ((startOf slots c - 1) * 40)) stored ∙ put-there (held c) (startOf slots c) (countOf slots c) new (c .areas .points) run-held area-long
+
+    -- each effective one of them is counted once
+    counted : (many : ℕ) → effectiveIn (countOf slots c) new ≡ many → Counted slots c many
+    counted many e =
+        record {
+          said = count-said c (t .heard) l;
+          once =
+              ap (λ (x : Lengths). effectiveIn (heldIn x .points) (answerOf c .areas .points) + effectiveNamed slots c) (l .lengths)
+              ∙ ap (λ (x : List ℕ). effectiveIn (held c .points) x + effectiveNamed slots c) stored
+              ∙ effective-put (held c) (startOf slots c) (countOf slots c) new (c .areas .points) run-held area-long as-many
+              ∙ ap (λ (x : ℕ). effectiveOf (c .areas) + x) e;
+        }
+
+-- after a 244H its points are listed as they were sent, as many as fit, and each is counted
+written : (c : Call) → Took writing c → Lasting c → PointsSurvive writing c
+written c t l =
     record {
-      known = refl;
-      digits = rw (all-take 6 s (c .1));
-      long = rw (eq-eqb _ _ (length-take-le 6 s (c .0)));
-      program = refl;
-      some = rw (same-count s) (r .some);
-      held = rw (same-start s, same-count s) (r .held);
-      pattern = refl;
-    }
-
--- a 209H with a 246H's content passes the tests that the 246H passed
-clear-right : (n fitted : ℕ) (s : List ℕ) → Right n fitted Clear s → Right n fitted Points s
-clear-right n fitted s r = record { known = refl; digits = r .digits; long = r .long; program = refl; some = r .some; held = r .held; pattern = refl }
-
--- what a write of slots leaves: they stand where they were put, each effective one counts once, and the rest is as before
-record Stored (c : Call) (start count : ℕ) (bytes : List ℕ) : Type 0 where
-  lasts : Lasting c (answerOf c)
-  there : drop ((start - 1) * 40) (answerOf c .points) ≡ bytes ++ drop ((start - 1) * 40 + length bytes) (c .points)
-  once : effectiveIn (heldIn (c .points)) (answerOf c .points) + effectiveBefore c start count ≡ effectiveIn (heldIn (c .points)) (c .points) + effectiveIn count bytes
-  others : Outside (pointsOf (heldIn (c .points))) start count (c .points) (answerOf c .points)
-  columns : answerOf c .columns ≡ c .columns
-
--- an accepted write of slots leaves that
-stored : (c : Call) (start count : ℕ) (bytes rest : List ℕ) → Passed c → Bytes (c .journal) → answerOf c ≡ wrotePoints c start count bytes rest
-    → 1 ≤ count → holds (pointsOf (heldIn (c .points))) start count ≡ true → length bytes ≡ count * 40 → length rest ≤ 1000 → Stored c start count bytes
-stored c start count bytes rest p bs wrote some held long short =
-    let n : ℕ = heldIn (c .points) in
-    let f = fine c p in
-    let l : length (c .points) ≡ n * 40 = omega (arith, f .points .whole-slots) in
-    record {
-      lasts = rw wrote (points-last c start count bytes rest f bs some held long short);
-      there = rw wrote (put-there n start count bytes (c .points) held l);
-      once = rw wrote (effective-put n start count bytes (c .points) held l long);
-      others = rw wrote (outside (pointsOf n) start count bytes (c .points) held l long);
-      columns = rw wrote;
-    }
-
--- after an accepted 244H its points are listed as they were sent, as many as fit, and each is counted once
-pub points-survive : (c : Call) → Accepted Write c → PointsSurvive c
-points-survive c a =
-    record {
+      kind = refl;
       listed =
-          list-said c (take 6 s) (listedOf s) (t .passed) (w .lasts) (list-right n (c .fitted) s (t .right)) (rw (length-take 6 s) (omega arith))
-          (rw (same-start s, same-count s, w .there) (listed-sent (c .fitted) count 1011 start (drop 6 s) _ (r .2) (all-drop 6 s (r .1)) patterns));
-      counted = count-said c (t .passed) (w .lasts);
-      once = w .once ∙ ap (λ (x : ℕ). effectiveIn n (c .points) + x) (effective-sent (c .fitted) count (drop 6 s) patterns);
-      others = w .others;
-      columns = w .columns;
+          list-said c (take 6 s) (listedOf writing c) (t .heard) l (query-right 0x244 0x209 0 3 3 pointsTag Points WritePoints ListPoints true _ c t refl)
+          (simp length-take (omega arith))
+          (rw (
+            same-start 0x244 0x209 0 3 3 pointsTag Points WritePoints ListPoints true true s,
+            same-count 0x244 0x209 0 3 3 pointsTag Points WritePoints ListPoints true true s,
+            there 0x244 Points WritePoints true c t refl l,
+          )
+          (listed-sent (c .sent .settings .fitted) (countOf writing c) 1011 (startOf writing c) (rest c writing) _ (t .assured .follows) (all-drop 6 s (t .assured .digits refl)) patterns));
+      counted = counted 0x244 Points WritePoints true c t refl l (countOf writing c) (effective-sent (c .sent .settings .fitted) (countOf writing c) (rest c writing) patterns);
     }
   where
-    n : ℕ
-    n = heldIn (c .points)
-
     s : List ℕ
-    s = contentIn (c .frame)
+    s = content c
 
-    start : ℕ
-    start = startOf Write s
+    patterns : patternsFit (c .sent .settings .fitted) (countOf writing c) (rest c writing) ≡ true
+    patterns = was-not (t .right .pattern)
 
-    count : ℕ
-    count = countOf Write s
-
-    t : Took Write c
-    t = took Write c a
-
-    r : Ready n s (orderOf Write s)
-    r = ready-order n (c .fitted) Write s (t .right)
-
-    patterns : patternsFit (c .fitted) count (drop 6 s) ≡ true
-    patterns = not-false _ (t .right .pattern)
-
-    w : Stored c start count (slotsOf count (drop 6 s))
-    w =
-        stored c start count (slotsOf count (drop 6 s)) (messageIn (c .frame) ++ take 6 s) (t .passed) (a .bytes) (t .order) (r .3) (r .4) (slots-long count (drop 6 s))
-        (omega (arith, reply-short (c .frame) s 6))
-
--- after an accepted 246H its points are neither listed nor counted
-pub points-cleared : (c : Call) → Accepted Clear c → PointsCleared c
+-- after a 246H its points are neither listed nor counted
+cleared : (c : Call) → Took clearing c → Lasting c → PointsCleared clearing c
 unfolding byteOf
-points-cleared c a =
+cleared c t l =
     record {
+      kind = refl;
       listed =
-          list-said c s [] (t .passed) (w .lasts) (clear-right n (c .fitted) s (t .right)) (omega (arith, six))
-          (rw (w .there) (listed-zero 1011 count start _));
-      counted = count-said c (t .passed) (w .lasts);
-      once = w .once ∙ ap (λ (x : ℕ). effectiveIn n (c .points) + x) (effective-zero count) ∙ add-zero (effectiveIn n (c .points));
-      others = w .others;
-      columns = w .columns;
+          list-said c s [] (t .heard) l (subst (Right (held c) (c .sent .settings .fitted) listing) (take-all 6 s (omega (arith, six))) (query-right 0x246 0x209 0 3 3 pointsTag Nothing ClearRun ListPoints _ _ c t refl))
+          (omega (arith, six))
+          (rw (there 0x246 Nothing ClearRun _ c t refl l) (listed-zero 1011 (countOf clearing c) (startOf clearing c) _));
+      counted = counted 0x246 Nothing ClearRun _ c t refl l 0 (effective-zero (countOf clearing c));
     }
   where
-    n : ℕ
-    n = heldIn (c .points)
-
     s : List ℕ
-    s = contentIn (c .frame)
-
-    start : ℕ
-    start = startOf Clear s
-
-    count : ℕ
-    count = countOf Clear s
-
-    t : Took Clear c
-    t = took Clear c a
-
-    r : Ready n s (orderOf Clear s)
-    r = ready-order n (c .fitted) Clear s (t .right)
+    s = content c
 
     six : length s ≡ 6
-    six = eqb-true _ _ (not-false _ (t .right .long))
+    six =
+        let f = t .assured .fields in
+        let d : length (drop 6 s) ≡ 0 = eqb-true _ _ (t .assured .follows) in
+        omega (arith, length-drop 6 s)
 
-    w : Stored c start count (replicate (count * 40) 0)
-    w =
-        stored c start count (replicate (count * 40) 0) (messageIn (c .frame)) (t .passed) (a .bytes) (t .order) (r .0) (r .1) (length-replicate (count * 40) 0)
-        (omega (arith, ID-short (c .frame)))
+-- after each accepted 244H
+points-survive : (c : Call) (a : Accepted 0x244 c) → PointsSurvive (a .message) c
+points-survive c a =
+    let e = row-of (c .sent .frame) 0x244 writing (a .known) (a .named) (rows .0) in
+    let t = took writing c (a .known ∙ ap Known e) (a .number) in
+    subst (λ (m : Message). PointsSurvive m c) (sym e) (written c t (lasts writing c t refl (a .bytes)))
+
+-- and each accepted 246H
+points-cleared : (c : Call) (a : Accepted 0x246 c) → PointsCleared (a .message) c
+points-cleared c a =
+    let e = row-of (c .sent .frame) 0x246 clearing (a .known) (a .named) (rows .1) in
+    let t = took clearing c (a .known ∙ ap Known e) (a .number) in
+    subst (λ (m : Message). PointsCleared m c) (sym e) (cleared c t (lasts clearing c t refl (a .bytes)))
 
 -- demand 2, for codes, points and cleared points
 pub every-digit-survives : EveryDigitSurvives
-every-digit-survives = record { codes = codes-survive; points = points-survive; cleared = points-cleared }
+every-digit-survives =
+    record {
+      codes = codes-survive;
+      points = points-survive;
+      cleared = points-cleared;
+      others = λ id c a. only-named (a .message) c (took (a .message) c (a .known) (a .number));
+    }

@@ -1,98 +1,199 @@
--- What a write of one kind leaves: the rest of its area, and a board that the next call takes.
-use Prim.Native.Nat.{ℕ, zero, suc, _+_, _*_, _≤_, _<_}
-use mathlib.Core.Path.{_≡_, refl}
-use mathlib.Core.Bool.{true}
-use mathlib.Core.List.{List, [], _∷_, _++_}
+-- What a write of any kind leaves: its bytes where it names them, all else as it was, and a board that the next call takes.
+use Prim.Native.Nat.{ℕ, _*_, _≤_}
+use mathlib.Core.Path.{_≡_, refl, sym, ap, ap₂, _∙_, subst}
+use mathlib.Core.Bool.{Bool, true, false, cond}
+use mathlib.Core.List.{List, [], _++_}
 use native.Mathlib.Omega.{arith}
-use lib.ListN.{length, take, drop, length-append, length-take}
-use lib.Seq.{take-take}
-use Rattle.frames.specs.Frame.{normal, messageIn}
+use lib.Dec.{eqb}
+use lib.ListN.{length, length-append}
+use borrow.Author.Tests.{eqb-true, eqb-false}
+use Rattle.digits.specs.Digits.{digitsOf}
+use Rattle.digits.proofs.Inverse.{inverse}
+use Rattle.digits.proofs.Bools.{either}
+use Rattle.frames.specs.Frame.{normal}
 use Rattle.frames.proofs.Closing.{length-reply}
 use Rattle.areas.specs.declared.kinds.Kind.{Kind}
-use Rattle.areas.specs.Kinds.{pointsOf, columnsOf, kindOf, holds, sizeOf, runOf, put}
+use Rattle.areas.specs.declared.kinds.Held.{Held}
+use Rattle.areas.specs.Kinds.{pointsTag, columnsTag, pointsOf, columnsOf, kindOf, holds, sizeOf, runOf, put}
+use Rattle.areas.proofs.Known.{tag-of, own-kind, within, room, run-length}
 use Rattle.areas.proofs.Promised.{run}
-use Rattle.journal.specs.Journal.{encodes, areaOf}
+use Rattle.journal.specs.Journal.{Entry, puts, entryFor}
 use Rattle.journal.specs.Laws.{Good}
 use Rattle.journal.proofs.Codec.{Bytes}
-use Rattle.writes.specs.Writes.{entryOf}
-use Rattle.writes.proofs.Held.{within, room, run-length, good, kind-points, kind-columns}
-use Rattle.refusals.specs.Call.{Call, heldIn}
+use Rattle.journal.proofs.Fitting.{good, puts-other}
+use Rattle.messages.specs.declared.table.Action.{Action}
+use Rattle.messages.specs.declared.table.Action.the-variants.{SayBack, CountPoints, ListPoints, ReadRun, AxisStatus, WritePoints, ClearRun, ChangeRun}
+use Rattle.messages.specs.declared.table.Message.{Message}
+use Rattle.messages.specs.Table.{Narrow}
+use Rattle.queries.specs.Replies.{headOf}
+use Rattle.calls.specs.Calls.{Areas, Call, Outcome, lengthsOf, areaIn, putIn, oldEntry, written}
 use Rattle.refusals.specs.Refusals.{journalFits}
-use Rattle.link.specs.Answer.{entriesAfter, wrotePoints, wroteColumns}
-use Rattle.link.proofs.Carrying.{Fine}
-use Rattle.demands.specs.Survive.{Outside}
-use Rattle.demands.proofs.Asking.{Lasting}
+use Rattle.link.specs.Answer.{held, rest, writes, newBytes, saidBy, answerOf}
+use Rattle.link.proofs.Carrying.{Fine, fine, Writable, writable}
+use Rattle.demands.specs.Survive.{content, startOf, countOf, Outside, OnlyNamed}
+use Rattle.demands.proofs.Asking.{Took, Lasting}
 use Rattle.demands.proofs.Journals.{journal-again}
 
--- a part of a front is that part of the whole
-pub same-part : (n at front : ℕ) (s : List ℕ) → at + n ≤ front → take n (drop at (take front s)) ≡ take n (drop at s)
-same-part n zero front s h = take-take n front s (omega arith)
-same-part n (suc at) zero s h = absurd (omega arith)
-same-part n (suc at) (suc front) [] h = refl
-same-part n (suc at) (suc front) (x ∷ s) h = same-part n at front s (omega arith)
+module _ (k : Kind) (start count : ℕ) (bytes area : List ℕ) (h : holds k start count ≡ true) (l : length area ≡ sizeOf k) (e : length bytes ≡ count * k .unit) where
+  -- a run put where it is held leaves what stands outside it
+  pub outside : Outside k start count area (put k start bytes area)
+  outside =
+      let r = room k start count h in
+      let w = run k start count bytes area e (omega arith) in
+      record { before-it = w .outside-before; behind-it = λ i b. w .outside-behind i (omega arith); as-long = w .as-long }
 
--- a run put where it is held leaves what stands outside it
-pub outside : (k : Kind) (start count : ℕ) (bytes area : List ℕ) → holds k start count ≡ true → length area ≡ sizeOf k → length bytes ≡ count * k .unit
-    → Outside k start count area (put k start bytes area)
-outside k start count bytes area h l e =
-    let r = room k start count h in
-    let w = run k start count bytes area e (omega arith) in
-    record {
-      before-it = w .outside-before;
-      behind-it = λ i b. w .outside-behind i (omega arith);
-      as-long = w .as-long;
-    }
+  -- and is read back
+  pub read-back : runOf k start count (put k start bytes area) ≡ bytes
+  read-back = let r = room k start count h in run k start count bytes area e (omega arith) .read-back
 
--- a run put where it is held is read back
-pub read-back : (k : Kind) (start count : ℕ) (bytes area : List ℕ) → holds k start count ≡ true → length area ≡ sizeOf k → length bytes ≡ count * k .unit
-    → runOf k start count (put k start bytes area) ≡ bytes
-read-back k start count bytes area h l e = let r = room k start count h in run k start count bytes area e (omega arith) .read-back
+-- each kind's area is as long as its kind says
+pub area-size : (c : Call) → Fine c → (tag : ℕ) → length (areaIn tag (c .areas)) ≡ sizeOf (kindOf (held c) tag)
+unfolding kindOf
+area-size c f tag = go (eqb tag pointsTag) (eqb tag columnsTag)
+  where
+    go : (b b′ : Bool) → length (cond b (c .areas .points) (cond b′ (c .areas .columns) []))
+        ≡ sizeOf (cond b (pointsOf (held c)) (cond b′ columnsOf (record { tag = tag; first = 0; unit = 1; held = 0; most = 0 })))
+    go true b′ = omega (arith, f .points .whole-slots)
+    go false true = f .columns
+    go false false = refl
 
--- an ID has three bytes at most
-pub ID-short : (frame : List ℕ) → length (messageIn frame) ≤ 3
-ID-short frame = rw (length-take 3 (drop 3 frame)) (omega arith)
+-- bytes of a held run stand in the area of their own kind
+put-own : (h : Held) (tag start count : ℕ) (bytes : List ℕ) (a : Areas) → 1 ≤ count → holds (kindOf h tag) start count ≡ true
+    → areaIn tag (putIn h (entryFor tag start bytes) a) ≡ put (kindOf h tag) start bytes (areaIn tag a)
+unfolding kindOf puts
+put-own h tag start count bytes a some = go (eqb tag pointsTag) (eqb tag columnsTag)
+  where
+    none : Kind
+    none = record { tag = tag; first = 0; unit = 1; held = 0; most = 0 }
 
--- with so many bytes of a content behind it, as many more
-pub reply-short : (frame s : List ℕ) (k : ℕ) → length (messageIn frame ++ take k s) ≤ 3 + k
-reply-short frame s k = rw (length-append (messageIn frame) (take k s), length-take k s) (omega (arith, ID-short frame))
+    go : (b b′ : Bool) → holds (cond b (pointsOf h) (cond b′ columnsOf none)) start count ≡ true
+        → cond b (cond b (put (pointsOf h) start bytes (a .points)) (a .points)) (cond b′ (cond b′ (put columnsOf start bytes (a .columns)) (a .columns)) [])
+        ≡ put (cond b (pointsOf h) (cond b′ columnsOf none)) start bytes (cond b (a .points) (cond b′ (a .columns) []))
+    go true b′ e = refl
+    go false true e = refl
+    go false false e = absurd (let w = within none start count e in omega (arith, w .1))
 
--- a held run's old bytes, added to a journal that has room for them, leave one that the next call takes
-journal-last : (c : Call) (k : Kind) (start count : ℕ) (area : List ℕ) → Fine c → Bytes (c .journal) → kindOf (heldIn (c .points)) (k .tag) ≡ k → 0 < k .unit
-    → 1 ≤ count → count ≤ k .most → holds k start count ≡ true → length area ≡ sizeOf k → start < 65536 → 5 + count * k .unit ≤ length (c .journal)
-    → journalFits (heldIn (c .points)) (areaOf (length (c .journal)) (entriesAfter c k start count area)) (length (encodes (entriesAfter c k start count area))) ≡ true
-journal-last c k start count area f bs e u some named h l s j =
-    let n : ℕ = heldIn (c .points) in
-    let m : length (runOf k start count area) ≡ count * k .unit = run-length k start count area h l in
-    let most = f .journal .most in
-    let g : Good n (entryOf k start count area) = good n k start count (runOf k start count area) e u some named h m s (omega arith) in
-    journal-again n (c .journal) (c .used) (entryOf k start count area) bs (f .journal) g (omega arith)
+-- and the area of another kind is as it was
+put-other : (h : Held) (e : Entry) (a : Areas) (tag : ℕ) → (tag ≡ e .tag → ⊥) → areaIn tag (putIn h e a) ≡ areaIn tag a
+put-other h e a tag n = go (eqb tag pointsTag) (eqb tag columnsTag) refl refl
+  where
+    go : (b b′ : Bool) → eqb tag pointsTag ≡ b → eqb tag columnsTag ≡ b′
+        → cond b (puts (pointsOf h) e (a .points)) (cond b′ (puts columnsOf e (a .columns)) []) ≡ cond b (a .points) (cond b′ (a .columns) [])
+    go true b′ p q = sym (puts-other (pointsOf h) e (a .points) (λ z. n (eqb-true _ _ p ∙ sym z)))
+    go false true p q = sym (puts-other columnsOf e (a .columns) (λ z. n (eqb-true _ _ q ∙ sym z)))
+    go false false p q = refl
 
--- an accepted write of points leaves a board that the next call takes
-pub points-last : (c : Call) (start count : ℕ) (bytes rest : List ℕ) → Fine c → Bytes (c .journal) → 1 ≤ count → holds (pointsOf (heldIn (c .points))) start count ≡ true
-    → length bytes ≡ count * 40 → length rest ≤ 1000 → Lasting c (wrotePoints c start count bytes rest)
-points-last c start count bytes rest f bs some h e short =
-    let n : ℕ = heldIn (c .points) in
-    let k = pointsOf n in
-    let w = within k start count h in
-    let most = f .points .most in
-    let least = f .journal .least in
-    let l : length (c .points) ≡ n * 40 = omega (arith, f .points .whole-slots) in
-    record {
-      points-long = outside k start count bytes (c .points) h l e .as-long;
-      columns-long = refl;
-      journal = journal-last c k start count (c .points) f bs (kind-points n) (omega arith) some (omega arith) h l (omega arith) (omega arith);
-      text-long = rw (length-reply normal (c .station) rest) (omega arith);
-    }
+-- false is not true
+not-so : {A : Type 0} → false ≡ true → A
+not-so e = absurd (let z : _≡_ {A = ℕ} 0 1 = ap (λ (b : Bool). cond b 1 0) e in omega arith)
 
--- and so does one of columns
-pub columns-last : (c : Call) (start count : ℕ) (bytes rest : List ℕ) → Fine c → Bytes (c .journal) → 1 ≤ count → count ≤ 255 → holds columnsOf start count ≡ true
-    → length bytes ≡ count * 1 → length rest ≤ 1000 → Lasting c (wroteColumns c start count bytes rest)
-columns-last c start count bytes rest f bs some most h e short =
-    let w = within columnsOf start count h in
-    let least = f .journal .least in
-    record {
-      points-long = refl;
-      columns-long = outside columnsOf start count bytes (c .columns) h (f .columns) e .as-long;
-      journal = journal-last c columnsOf start count (c .columns) f bs (kind-columns (heldIn (c .points))) (omega arith) some most h (f .columns) (omega arith) (omega arith);
-      text-long = rw (length-reply normal (c .station) rest) (omega arith);
-    }
+-- the reply to a write is its head
+said-head : (a : Action) (c : Call) (m : Message) (start count : ℕ) → writes a ≡ true → saidBy a c m start count ≡ headOf m start count
+said-head SayBack c m start count w = not-so w
+said-head CountPoints c m start count w = not-so w
+said-head ListPoints c m start count w = not-so w
+said-head ReadRun c m start count w = not-so w
+said-head AxisStatus c m start count w = not-so w
+said-head WritePoints c m start count w = refl
+said-head ClearRun c m start count w = refl
+said-head ChangeRun c m start count w = refl
+
+-- a head is short
+head-short : (m : Message) (start count : ℕ) → Narrow m → length (headOf m start count) ≤ 15
+head-short m start count n =
+    let p = inverse (m .program) .as-many 0 in
+    let s = inverse (m .start) .as-many start in
+    let k = inverse (m .count) .as-many count in
+    let b : length (cond (m .repeats) (digitsOf (m .program) 0 ++ (digitsOf (m .start) start ++ digitsOf (m .count) count)) []) ≤ 12 =
+    either (λ (l : List ℕ). length l ≤ 12) (m .repeats) (λ _. simp length-append (omega (arith, n .program, n .start, n .count))) (λ _. omega arith) in
+    simp length-append (omega arith)
+
+-- the kind of the things that a message names, and the bytes that it stores
+abbrev pub kindIn : Message → Call → Kind
+kindIn m c = kindOf (held c) (m .tag)
+
+abbrev pub newIn : Message → Call → List ℕ
+newIn m c = newBytes (m .does) (kindIn m c .unit) (countOf m c) (rest c m)
+
+-- what an accepted write leaves
+pub record Wrote (m : Message) (c : Call) : Type 0 where
+  pub run : Writable (held c) (content c) m (startOf m c) (countOf m c)
+  pub own : areaIn (m .tag) (answerOf c .areas) ≡ put (kindIn m c) (startOf m c) (newIn m c) (areaIn (m .tag) (c .areas))
+  pub only : OnlyNamed m c
+
+module _ (m : Message) (c : Call) (t : Took m c) where
+  -- the areas that an accepted message leaves
+  areas-left : (b : Bool) → writes (m .does) ≡ b → answerOf c .areas ≡ cond b (written (held c) (m .tag) (startOf m c) (countOf m c) (newIn m c) (c .areas)) (c .areas)
+  areas-left b w =
+      ap (λ (o : Outcome). o .areas) (t .answer)
+      ∙ ap (λ (x : Bool). cond x (written (held c) (m .tag) (startOf m c) (countOf m c) (newIn m c) (c .areas)) (c .areas)) w
+
+  module _ (w : writes (m .does) ≡ true) where
+    pub wrote : Wrote m c
+    wrote =
+        let r = writable (held c) (content c) m (startOf m c) (countOf m c) (t .assured) w in
+        let own =
+        ap (areaIn (m .tag)) (areas-left true w) ∙ put-own (held c) (m .tag) (startOf m c) (countOf m c) (newIn m c) (c .areas) (r .run .some) (r .run .held-all) in
+        record {
+          run = r;
+          own = own;
+          only =
+              record {
+                outside =
+                    subst (Outside (kindIn m c) (startOf m c) (countOf m c) (areaIn (m .tag) (c .areas))) (sym own)
+                    (outside (kindIn m c) (startOf m c) (countOf m c) (newIn m c) (areaIn (m .tag) (c .areas)) (r .run .held-all) (area-size c (fine c (t .heard)) (m .tag)) (r .long));
+                others = λ tag n. ap (areaIn tag) (areas-left true w) ∙ put-other (held c) (entryFor (m .tag) (startOf m c) (newIn m c)) (c .areas) tag n;
+              };
+        }
+
+    -- the areas stay as long as they were
+    lengths-kept : lengthsOf (answerOf c .areas) ≡ lengthsOf (c .areas)
+    lengths-kept = ap₂ (λ (p q : ℕ). record { points = p; columns = q }) (same pointsTag) (same columnsTag)
+      where
+        same : (tag : ℕ) → length (areaIn tag (answerOf c .areas)) ≡ length (areaIn tag (c .areas))
+        same tag = go (eqb tag (m .tag)) refl
+          where
+            go : (b : Bool) → eqb tag (m .tag) ≡ b → length (areaIn tag (answerOf c .areas)) ≡ length (areaIn tag (c .areas))
+            go true e =
+                subst (λ (x : ℕ). length (areaIn x (answerOf c .areas)) ≡ length (areaIn x (c .areas))) (sym (eqb-true tag (m .tag) e)) (wrote .only .outside .as-long)
+            go false e = ap length (wrote .only .others tag (eqb-false _ _ e))
+
+    -- the old bytes, added to a journal that has room for them, leave one that the next call takes
+    journal-last : Bytes (c .areas .journal) → journalFits (held c) (answerOf c .areas .journal) (answerOf c .areas .kept .used) ≡ true
+    journal-last bs =
+        let f = fine c (t .heard) in
+        let r = wrote .run .run in
+        let e = oldEntry (held c) (m .tag) (startOf m c) (countOf m c) (c .areas) in
+        let l : length (e .bytes) ≡ countOf m c * kindIn m c .unit =
+        run-length (kindIn m c) (startOf m c) (countOf m c) (r .held-all) (areaIn (m .tag) (c .areas)) (area-size c f (m .tag)) in
+        let g : Good (held c) e =
+        subst (λ (x : ℕ). Good (held c) (entryFor x (startOf m c) (e .bytes))) (tag-of (held c) (m .tag))
+        (good (held c) (kindIn m c) (startOf m c) (countOf m c) (e .bytes) (f .sound-held) (own-kind (held c) (m .tag)) (r .some) (r .named) (r .held-all) l) in
+        subst (λ (a : Areas). journalFits (held c) (a .journal) (a .kept .used) ≡ true) (sym (areas-left true w))
+        (journal-again (held c) (c .areas .journal) (c .areas .kept .used) e bs (f .journal) g (omega (arith, f .journal .least, r .few-bytes)))
+
+    -- an accepted write leaves a board that the next call takes
+    pub lasts : Bytes (c .areas .journal) → Lasting c
+    lasts bs =
+        record {
+          lengths = lengths-kept;
+          journal = journal-last bs;
+          text-long =
+              rw (t .answer, said-head (m .does) c m (startOf m c) (countOf m c) w, length-reply normal (c .sent .settings .station) (headOf m (startOf m c) (countOf m c)))
+              (omega (arith, head-short m (startOf m c) (countOf m c) (t .assured .narrow)));
+        }
+
+  -- an accepted message changes nothing but what it names
+  pub only-named : OnlyNamed m c
+  only-named = go (writes (m .does)) refl
+    where
+      go : (b : Bool) → writes (m .does) ≡ b → OnlyNamed m c
+      go true w = wrote w .only
+      go false w =
+          let e : c .areas ≡ answerOf c .areas = sym (areas-left false w) in
+          record {
+            outside =
+                subst (λ (a : Areas). Outside (kindIn m c) (startOf m c) (countOf m c) (areaIn (m .tag) (c .areas)) (areaIn (m .tag) a)) e
+                (record { before-it = λ i b. refl; behind-it = λ i b. refl; as-long = refl });
+            others = λ tag n. ap (areaIn tag) (sym e);
+          }

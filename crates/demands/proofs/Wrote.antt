@@ -1,274 +1,160 @@
--- What an accepted write does, stated once over the kind of thing written.
-use Prim.Native.Nat.{ℕ, zero, suc, _+_, _-_, _*_, _≤_, _<_}
-use mathlib.Core.Path.{_≡_, refl, sym, ap, ap₂, _∙_, subst}
-use mathlib.Core.Bool.{Bool, true, false, cond, _&&_}
-use mathlib.Core.List.{List, [], _∷_, _++_}
+-- What an accepted write leaves, and what puts it back, whatever the kind of thing written.
+use Prim.Native.Nat.{ℕ, _*_}
+use mathlib.Core.Path.{_≡_, refl, ap, ap₂, _∙_, subst}
+use mathlib.Core.Bool.{Bool, true, false, cond}
+use mathlib.Core.List.{List, []}
 use native.Mathlib.Omega.{arith}
 use lib.Dec.{eqb}
-use lib.ListN.{length, drop, replicate, length-append, length-drop, length-replicate}
-use borrow.Author.Tests.{eqb-true, eqb-false, eq-eqb, ne-eqb}
-use Rattle.digits.proofs.Inverse.{and-left, and-right}
+use lib.ListN.{length}
+use borrow.Author.Tests.{eqb-true}
 use Rattle.frames.specs.Frame.{contentIn}
-use Rattle.areas.specs.declared.kinds.Kind.{Kind}
-use Rattle.areas.specs.Kinds.{pointsOf, columnsOf, kindOf, holds, sizeOf, placeOf, runOf, put}
-use Rattle.areas.specs.Columns.{bytesIn}
+use Rattle.areas.specs.declared.kinds.Held.{Held}
+use Rattle.areas.specs.Kinds.{pointsTag, columnsTag, pointsOf, columnsOf, kindOf, sizeOf, put}
 use Rattle.areas.specs.Laws.{Run}
-use Rattle.areas.proofs.Pairs.{length-bytesIn}
 use Rattle.areas.proofs.Promised.{run}
-use Rattle.journal.specs.Journal.{Entry, encodes, added, areaOf, restored}
+use Rattle.areas.proofs.Known.{tag-of, own-kind, kind-points, kind-columns, room, run-length}
+use Rattle.journal.specs.Journal.{Entry, encodes, added, areaOf, puts, entryFor}
 use Rattle.journal.specs.Laws.{Good}
-use Rattle.journal.specs.Laws as journal
 use Rattle.journal.proofs.Codec.{length-encode}
 use Rattle.journal.proofs.Again.{good-added}
-use Rattle.points.specs.Point.{slotsOf}
-use Rattle.writes.specs.Writes.{entryOf}
-use Rattle.writes.proofs.Held.{within, room, good, run-length, kind-points, kind-columns}
+use Rattle.journal.proofs.Fitting.{good}
+use Rattle.messages.specs.declared.table.Message.{Message}
 use Rattle.messages.specs.declared.Asked.{Asked}
-use Rattle.messages.specs.declared.Asked.the-variants.{UnknownMessage, NotDigits, WrongLength, WrongProgram, CountZero, NotHeld, WrongPattern, TestCall, CountPoints, ListPoints, ReadColumns, AxisStatus, WritePoints, ClearPoints, ChangeColumns}
+use Rattle.messages.specs.declared.Asked.the-variants.{Refused, Order}
+use Rattle.messages.specs.Table.{restIn}
 use Rattle.messages.specs.Asked.{askedOf}
-use Rattle.messages.proofs.Readiness.{Ready}
-use Rattle.refusals.specs.Call.{Call, Outcome, heldIn}
-use Rattle.refusals.specs.Refusals.{refusalOf}
-use Rattle.link.specs.Answer.{entriesOf, entriesAfter, wrotePoints, wroteColumns, done, answerOf}
-use Rattle.link.proofs.Carrying.{told}
-use Rattle.demands.specs.Refused.{writes}
-use Rattle.demands.specs.History.{ours, Areas, Sent, Event, frame, callOn, left, after, acceptedWrite}
-use Rattle.demands.proofs.Refused.{one-number, not-both}
+use Rattle.calls.specs.Calls.{Areas, Sent, Outcome, areaIn, putIn, oldEntry, written}
+use Rattle.link.specs.Answer.{writes, newBytes, areasAfter, storedBy, answerOf}
+use Rattle.link.proofs.Answering.{accepted, heard-answer}
+use Rattle.link.proofs.Carrying.{Writable, writable, judged-so}
+use Rattle.demands.specs.Refused.{asksWrite}
+use Rattle.demands.specs.History.{ours, frame, callOn, after}
 use Rattle.demands.proofs.Journals.{added-fits}
-use Rattle.demands.proofs.Slots.{slots-long}
-use Rattle.demands.proofs.Shaped.{Bounds, Shape, held, journal-long, same-entries}
+use Rattle.demands.proofs.Shaped.{Bounds, Shape, each-long, sound, held-is, journal-long, entries-held}
 
--- what a write orders: bytes for so many from a start number on, of one kind
-pub record Order : Type 0 where
-  pub kind : Kind
+-- what a frame that writes orders of a board that holds so much, and that it can be carried out
+pub record Writes (held : Held) (s : Sent) : Type 0 where
+  pub message : Message
   pub start : ℕ
   pub count : ℕ
-  pub bytes : List ℕ
+  pub order : askedOf held (s .settings .fitted) (s .frame) ≡ Order message start count
+  pub is-write : writes (message .does) ≡ true
+  pub able : Writable held (contentIn (s .frame)) message start count
 
-abbrev none : Order
-none = record { kind = columnsOf; start = 300; count = 0; bytes = [] }
+pub ordered : (held : Held) (s : Sent) → asksWrite (askedOf held (s .settings .fitted) (s .frame)) ≡ true → Writes held s
+ordered held s = go (askedOf held (s .settings .fitted) (s .frame)) refl
+  where
+    go : (a : Asked) → askedOf held (s .settings .fitted) (s .frame) ≡ a → asksWrite a ≡ true → Writes held s
+    go (Refused number) q e = absurd (let z : _≡_ {A = ℕ} 0 1 = ap (λ (b : Bool). cond b 1 0) e in omega arith)
+    go (Order m start count) q e =
+        record {
+          message = m;
+          start = start;
+          count = count;
+          order = q;
+          is-write = e;
+          able = writable held (contentIn (s .frame)) m start count (judged-so held (s .settings .fitted) (s .frame) m start count q) e;
+        }
 
-abbrev pub orderIn : ℕ → List ℕ → Asked → Order
-orderIn n content UnknownMessage = none
-orderIn n content NotDigits = none
-orderIn n content WrongLength = none
-orderIn n content WrongProgram = none
-orderIn n content CountZero = none
-orderIn n content NotHeld = none
-orderIn n content WrongPattern = none
-orderIn n content TestCall = none
-orderIn n content CountPoints = none
-orderIn n content (ListPoints s k) = none
-orderIn n content (ReadColumns s k) = none
-orderIn n content (AxisStatus p) = none
-orderIn n content (WritePoints s k) = record { kind = pointsOf n; start = s; count = k; bytes = slotsOf k (drop 6 content) }
-orderIn n content (ClearPoints s k) = record { kind = pointsOf n; start = s; count = k; bytes = replicate (k * 40) 0 }
-orderIn n content (ChangeColumns s k) = record { kind = columnsOf; start = s; count = k; bytes = bytesIn (drop 7 content) }
+module _ {held : Held} {s : Sent} (w : Writes held s) where
+  abbrev tag : ℕ
+  tag = w .message .tag
 
-abbrev pub orderOf : ℕ → Sent → Order
-orderOf n s = orderIn n (contentIn (s .frame)) (askedOf n (s .fitted) (s .frame))
+  abbrev new : List ℕ
+  new = newBytes (w .message .does) (kindOf held tag .unit) (w .count) (restIn (w .message) (contentIn (s .frame)))
 
--- the order can be carried out, and its entry fits into the journal
-pub record Ordered (n size : ℕ) (w : Order) : Type 0 where
-  pub its-kind : kindOf n (w .kind .tag) ≡ w .kind
-  pub some-bytes : 0 < w .kind .unit
-  pub numbers : w .kind .first + w .kind .held < 65536
-  pub some : 1 ≤ w .count
-  pub named : w .count ≤ w .kind .most
-  pub is-held : holds (w .kind) (w .start) (w .count) ≡ true
-  pub long : length (w .bytes) ≡ w .count * w .kind .unit
-  pub fits : 5 + w .count * w .kind .unit ≤ size
+  -- the entry of what it writes, that of what stood there, and the areas that it leaves
+  abbrev pub entryOf : Entry
+  entryOf = entryFor tag (w .start) new
 
--- an area of a kind after a write of some kind, and the area that the write is of
-unfoldable pub puts : Kind → Order → List ℕ → List ℕ
-puts k w area = cond (eqb (w .kind .tag) (k .tag)) (put k (w .start) (w .bytes) area) area
+  abbrev pub oldBy : Areas → Entry
+  oldBy = oldEntry held tag (w .start) (w .count)
 
-abbrev pub own : Order → Areas → List ℕ
-own w a = cond (eqb (w .kind .tag) 0x50) (a .points) (a .columns)
+  abbrev pub writtenBy : Areas → Areas
+  writtenBy = written held tag (w .start) (w .count) new
 
-abbrev pub entryBy : Order → Areas → Entry
-entryBy w a = entryOf (w .kind) (w .start) (w .count) (own w a)
-
--- what a write does to areas whose journal holds some entries
-pub record Did (n size : ℕ) (w : Order) (es : List Entry) (a a′ : Areas) : Type 0 where
-  pub points : a′ .points ≡ puts (pointsOf n) w (a .points)
-  pub columns : a′ .columns ≡ puts columnsOf w (a .columns)
-  pub journal : journal.Holds size (added size es (entryBy w a)) (a′ .journal) (a′ .used)
-  pub own-long : length (own w a) ≡ sizeOf (w .kind)
-
--- an accepted order is done
-done-accepted : (c : Call) → answerOf c .number ≡ 0 → answerOf c ≡ done c (askedOf (heldIn (c .points)) (c .fitted) (c .frame))
-unfolding answerOf
-done-accepted c e = let f : refusalOf c ≡ 0 = sym (one-number .frame c) ∙ e in rw f
-
-module _ {n size : ℕ} (b : Bounds n size) {a : Areas} {es : List Entry} (h : Shape n size a es) (s : Sent) where
-  same-added : (k : Kind) (start count : ℕ) (area : List ℕ) → entriesAfter (callOn a s) k start count area ≡ added size es (entryOf k start count area)
-  same-added k start count area = ap₂ (λ (m : ℕ) (x : List Entry). added m x (entryOf k start count area)) (journal-long b h) (same-entries b h)
-
-  left-journal : (new : List Entry) → (x : List Entry) → x ≡ new → journal.Holds size new (areaOf (length (a .journal)) x) (length (encodes x))
-  left-journal new x e = record { bytes = ap₂ areaOf (journal-long b h) e; used = ap (λ (y : List Entry). length (encodes y)) e }
-
-  points-did : (start count : ℕ) (bytes : List ℕ)
-      → Did n size (record { kind = pointsOf n; start = start; count = count; bytes = bytes }) es a (left (wrotePoints (callOn a s) start count bytes []))
-  unfolding puts
-  points-did start count bytes =
-      record {
-        points = ap (λ (m : ℕ). put (pointsOf m) start bytes (a .points)) (held b h);
-        columns = refl;
-        journal =
-            left-journal (added size es (entryOf (pointsOf n) start count (a .points)))
-            (entriesAfter (callOn a s) (pointsOf (heldIn (a .points))) start count (a .points))
-            (same-added (pointsOf (heldIn (a .points))) start count (a .points)
-            ∙ ap (λ (m : ℕ). added size es (entryOf (pointsOf m) start count (a .points))) (held b h));
-        own-long = h .points-long;
-      }
-
-  columns-did : (start count : ℕ) (bytes : List ℕ)
-      → Did n size (record { kind = columnsOf; start = start; count = count; bytes = bytes }) es a (left (wroteColumns (callOn a s) start count bytes []))
-  unfolding puts
-  columns-did start count bytes =
-      record {
-        points = refl;
-        columns = refl;
-        journal =
-            left-journal (added size es (entryOf columnsOf start count (a .columns)))
-            (entriesAfter (callOn a s) columnsOf start count (a .columns))
-            (same-added columnsOf start count (a .columns));
-        own-long = h .columns-long;
-      }
-
-  points-ordered : (start count : ℕ) (bytes : List ℕ) → 1 ≤ count → holds (pointsOf n) start count ≡ true → length bytes ≡ count * 40
-      → Ordered n size (record { kind = pointsOf n; start = start; count = count; bytes = bytes })
-  points-ordered start count bytes o e l =
-      let w = within (pointsOf n) start count e in
-      record {
-        its-kind = kind-points n;
-        some-bytes = omega arith;
-        numbers = omega (arith, b .most);
-        some = o;
-        named = omega (arith, w .0, w .1);
-        is-held = e;
-        long = l;
-        fits = omega (arith, w .0, w .1, b .least);
-      }
-
-  columns-ordered : (start count : ℕ) (bytes : List ℕ) → 1 ≤ count → count ≤ 255 → holds columnsOf start count ≡ true → length bytes ≡ count
-      → Ordered n size (record { kind = columnsOf; start = start; count = count; bytes = bytes })
-  columns-ordered start count bytes o m e l =
-      record {
-        its-kind = kind-columns n;
-        some-bytes = omega arith;
-        numbers = omega arith;
-        some = o;
-        named = m;
-        is-held = e;
-        long = omega (arith, l);
-        fits = omega (arith, b .least, m);
-      }
-
-  abbrev content : List ℕ
-  content = contentIn (s .frame)
-
-  -- each order that writes
-  carried : (k : Asked) → writes k ≡ true → Ready n content k
-      → Ordered n size (orderIn n content k) × Did n size (orderIn n content k) es a (left (done (callOn a s) k))
-  carried UnknownMessage e r = absurd (not-both (sym e))
-  carried NotDigits e r = absurd (not-both (sym e))
-  carried WrongLength e r = absurd (not-both (sym e))
-  carried WrongProgram e r = absurd (not-both (sym e))
-  carried CountZero e r = absurd (not-both (sym e))
-  carried NotHeld e r = absurd (not-both (sym e))
-  carried WrongPattern e r = absurd (not-both (sym e))
-  carried TestCall e r = absurd (not-both (sym e))
-  carried CountPoints e r = absurd (not-both (sym e))
-  carried (ListPoints x k) e r = absurd (not-both (sym e))
-  carried (ReadColumns x k) e r = absurd (not-both (sym e))
-  carried (AxisStatus p) e r = absurd (not-both (sym e))
-  carried (WritePoints x k) e r =
-      (points-ordered x k (slotsOf k (drop 6 content)) (r .3) (r .4) (slots-long k (drop 6 content)), points-did x k _)
-  carried (ClearPoints x k) e r =
-      (points-ordered x k (replicate (k * 40) 0) (r .0) (r .1) (length-replicate (k * 40) 0), points-did x k _)
-  carried (ChangeColumns x k) e r =
-      let l : length (drop 7 content) ≡ 2 * k = simp length-drop (omega (arith, r .0)) in
-      (columns-ordered x k (bytesIn (drop 7 content)) (r .2) (r .3) (r .4) (length-bytesIn k (drop 7 content) l), columns-did x k _)
-
-  pub wrote : acceptedWrite ours a s ≡ true → Ordered n size (orderOf n s) × Did n size (orderOf n s) es a (after ours a (frame s))
-  wrote e =
+  -- an accepted write leaves just that
+  pub wrote : {size : ℕ} (b : Bounds held size) {a : Areas} {es : List Entry} → Shape held size a es → answerOf (callOn a s) .number ≡ 0
+      → after ours a (frame s) ≡ writtenBy a
+  wrote b {a} h e =
       let c = callOn a s in
-      let q = eqb (answerOf c .number) 0 in
-      let k = askedOf (heldIn (a .points)) (s .fitted) (s .frame) in
-      let number : answerOf c .number ≡ 0 = eqb-true _ _ (and-left q (writes k) e) in
-      let is : askedOf n (s .fitted) (s .frame) ≡ k = ap (λ (m : ℕ). askedOf m (s .fitted) (s .frame)) (sym (held b h)) in
-      let r = carried (askedOf n (s .fitted) (s .frame)) (ap writes is ∙ and-right q (writes k) e) (told n (s .fitted) (s .frame) _ refl) in
-      (r .0, subst (λ (o : Outcome). Did n size (orderOf n s) es a (left o)) (sym (done-accepted c number ∙ ap (done c) (sym is))) (r .1))
+      let is = held-is b h in
+      ap (λ (o : Outcome). o .areas) (heard-answer c (accepted c e .heard))
+      ∙ ap (areasAfter c) (ap (λ (x : Held). askedOf x (s .settings .fitted) (s .frame)) is ∙ w .order)
+      ∙ ap (λ (x : Held). storedBy x (w .message) (w .start) (w .count) (restIn (w .message) (contentIn (s .frame))) a) is
+      ∙ rw (w .is-write)
 
--- one law over the kind: what an order's entry restores
-module _ {n size : ℕ} {w : Order} (o : Ordered n size w) (k : Kind) (is : kindOf n (k .tag) ≡ k) (area : List ℕ) (l : length area ≡ sizeOf k) where
-  same-kind : w .kind .tag ≡ k .tag → w .kind ≡ k
-  same-kind e = sym (o .its-kind) ∙ ap (kindOf n) e ∙ is
+-- areas that hold the same, kind by kind, and what is put into them
+same-areas : (a a′ : Areas) → a .points ≡ a′ .points → a .columns ≡ a′ .columns → (t : ℕ) → areaIn t a ≡ areaIn t a′
+same-areas a a′ p c t = ap₂ (λ (x y : List ℕ). cond (eqb t pointsTag) x (cond (eqb t columnsTag) y [])) p c
 
-  runs : w .kind ≡ k → Run k (w .start) (w .count) (w .bytes) area
-  runs e =
-      let r = room (w .kind) (w .start) (w .count) (o .is-held) in
-      let long : length (w .bytes) ≡ w .count * k .unit = o .long ∙ ap (λ (x : Kind). w .count * x .unit) e in
-      let r′ : placeOf k (w .start) + w .count * k .unit ≤ sizeOf k = subst (λ (x : Kind). placeOf x (w .start) + w .count * x .unit ≤ sizeOf x) e r in
-      run k (w .start) (w .count) (w .bytes) area long (omega (arith, r′, long, l))
+pub same-put : (held : Held) (e : Entry) (a a′ : Areas) → ((t : ℕ) → areaIn t a ≡ areaIn t a′) → (t : ℕ)
+    → areaIn t (putIn held e a) ≡ areaIn t (putIn held e a′)
+same-put held e a a′ f = same-areas (putIn held e a) (putIn held e a′) (ap (puts (pointsOf held) e) (f pointsTag)) (ap (puts columnsOf e) (f columnsTag))
 
-  pub length-puts : length (puts k w area) ≡ sizeOf k
+-- a write over areas of the right lengths
+module _ {held : Held} {s : Sent} (w : Writes held s) (a : Areas) (l : (t : ℕ) → length (areaIn t a) ≡ sizeOf (kindOf held t)) where
+  its-run : Run (kindOf held (tag w)) (w .start) (w .count) (new w) (areaIn (tag w) a)
+  its-run =
+      run (kindOf held (tag w)) (w .start) (w .count) (new w) (areaIn (tag w) a) (w .able .long)
+      (omega (arith, room (kindOf held (tag w)) (w .start) (w .count) (w .able .run .held-all), w .able .long, l (tag w)))
+
+  -- one law over the kind: an area after the write is as long, and what stood there, put back, is the area
+  after-put : (t : ℕ) → length (puts (kindOf held t) (entryOf w) (areaIn t a)) ≡ sizeOf (kindOf held t)
   unfolding puts
-  length-puts = go (eqb (w .kind .tag) (k .tag)) refl
+  after-put t = go (eqb (tag w) (kindOf held t .tag)) refl
     where
-      go : (x : Bool) → eqb (w .kind .tag) (k .tag) ≡ x → length (cond x (put k (w .start) (w .bytes) area) area) ≡ sizeOf k
-      go true e = runs (same-kind (eqb-true _ _ e)) .as-long ∙ l
-      go false e = l
-
-  pub undo : (own : List ℕ) → (w .kind .tag ≡ k .tag → own ≡ area) → restored k (entryOf (w .kind) (w .start) (w .count) own) (puts k w area) ≡ area
-  unfolding puts restored
-  undo own f = go (eqb (w .kind .tag) (k .tag)) refl
-    where
-      go : (x : Bool) → eqb (w .kind .tag) (k .tag) ≡ x
-          → cond x (put k (w .start) (runOf (w .kind) (w .start) (w .count) own) (cond x (put k (w .start) (w .bytes) area) area)) (cond x (put k (w .start) (w .bytes) area) area) ≡ area
+      go : (x : Bool) → eqb (tag w) (kindOf held t .tag) ≡ x
+          → length (cond x (put (kindOf held t) (w .start) (new w) (areaIn t a)) (areaIn t a)) ≡ sizeOf (kindOf held t)
       go true e =
-          let q = same-kind (eqb-true _ _ e) in
-          ap₂ (λ (y : Kind) (z : List ℕ). put k (w .start) (runOf y (w .start) (w .count) z) (put k (w .start) (w .bytes) area)) q (f (eqb-true _ _ e))
-          ∙ runs q .put-back
+          subst (λ (u : ℕ). length (put (kindOf held u) (w .start) (new w) (areaIn u a)) ≡ sizeOf (kindOf held u)) (eqb-true _ _ e ∙ tag-of held t)
+          (its-run .as-long ∙ l (tag w))
+      go false e = l t
+
+  put-back : (t : ℕ) → puts (kindOf held t) (oldBy w a) (puts (kindOf held t) (entryOf w) (areaIn t a)) ≡ areaIn t a
+  unfolding puts
+  put-back t = go (eqb (tag w) (kindOf held t .tag)) refl
+    where
+      puts-if : Bool → List ℕ → List ℕ → List ℕ
+      puts-if x bytes area = cond x (put (kindOf held t) (w .start) bytes area) area
+
+      go : (x : Bool) → eqb (tag w) (kindOf held t .tag) ≡ x → puts-if x (oldBy w a .bytes) (puts-if x (new w) (areaIn t a)) ≡ areaIn t a
+      go true e =
+          subst (λ (u : ℕ). put (kindOf held u) (w .start) (oldBy w a .bytes) (put (kindOf held u) (w .start) (new w) (areaIn u a)) ≡ areaIn u a)
+          (eqb-true _ _ e ∙ tag-of held t)
+          (its-run .put-back)
       go false e = refl
 
+  pub undone : (t : ℕ) → areaIn t (putIn held (oldBy w a) (putIn held (entryOf w) a)) ≡ areaIn t a
+  undone =
+      same-areas (putIn held (oldBy w a) (putIn held (entryOf w) a)) a (rw (kind-points held) at (put-back pointsTag))
+      (rw (kind-columns held) at (put-back columnsTag))
+
+  long-again : (t : ℕ) → length (areaIn t (putIn held (entryOf w) a)) ≡ sizeOf (kindOf held t)
+  long-again =
+      each-long held (putIn held (entryOf w) a) (rw (kind-points held) at (after-put pointsTag)) (rw (kind-columns held) at (after-put columnsTag))
+
+  -- the entry of what stood there is good
+  old-long : length (oldBy w a .bytes) ≡ w .count * kindOf held (tag w) .unit
+  old-long = run-length (kindOf held (tag w)) (w .start) (w .count) (w .able .run .held-all) (areaIn (tag w) a) (l (tag w))
+
+  old-good : {size : ℕ} → Bounds held size → Good held (oldBy w a)
+  old-good b =
+      let r = w .able .run in
+      subst (λ (t : ℕ). Good held (entryFor t (w .start) (oldBy w a .bytes))) (tag-of held (tag w))
+      (good held (kindOf held (tag w)) (w .start) (w .count) (oldBy w a .bytes) (sound b) (own-kind held (tag w)) (r .some) (r .named) (r .held-all) old-long)
+
 -- the areas after a write are of the right lengths again
-module _ {n size : ℕ} (b : Bounds n size) {a a′ : Areas} {es : List Entry} (h : Shape n size a es) {w : Order} (o : Ordered n size w) (d : Did n size w es a a′) where
-  own-points : w .kind .tag ≡ 0x50 → own w a ≡ a .points
-  own-points e = rw (eq-eqb _ _ e)
-
-  own-columns : w .kind .tag ≡ 0x53 → own w a ≡ a .columns
-  own-columns e = rw e
-
-  pub undo-points : restored (pointsOf n) (entryBy w a) (a′ .points) ≡ a .points
-  undo-points =
-      ap (restored (pointsOf n) (entryBy w a)) (d .points)
-      ∙ undo o (pointsOf n) (kind-points n) (a .points) (h .points-long) (own w a) own-points
-
-  pub undo-columns : restored columnsOf (entryBy w a) (a′ .columns) ≡ a .columns
-  undo-columns =
-      ap (restored columnsOf (entryBy w a)) (d .columns)
-      ∙ undo o columnsOf (kind-columns n) (a .columns) (h .columns-long) (own w a) own-columns
-
-  -- the entry that the write adds
-  old-long : length (entryBy w a .old) ≡ w .count * w .kind .unit
-  old-long = run-length (w .kind) (w .start) (w .count) (own w a) (o .is-held) (d .own-long)
-
-  entry-good : Good n (entryBy w a)
-  entry-good =
-      let x = within (w .kind) (w .start) (w .count) (o .is-held) in
-      good n (w .kind) (w .start) (w .count) (entryBy w a .old) (o .its-kind) (o .some-bytes) (o .some) (o .named) (o .is-held) old-long
-      (omega (arith, x .1, o .numbers, o .some))
-      (omega (arith, old-long, o .fits, b .largest))
-
-  pub shaped : Shape n size a′ (added size es (entryBy w a))
-  shaped =
-      record {
-        points-long = ap length (d .points) ∙ length-puts o (pointsOf n) (kind-points n) (a .points) (h .points-long);
-        columns-long = ap length (d .columns) ∙ length-puts o columnsOf (kind-columns n) (a .columns) (h .columns-long);
-        holds = d .journal;
-        good = good-added n size es (entryBy w a) (h .good) entry-good;
-        fits = added-fits size es (entryBy w a) (omega (arith, length-encode (entryBy w a), old-long, o .fits));
-      }
+pub shaped : {held : Held} {size : ℕ} {s : Sent} (w : Writes held s) (b : Bounds held size) {a : Areas} {es : List Entry} → Shape held size a es
+    → Shape held size (writtenBy w a) (added size es (oldBy w a))
+shaped {held} {size} w b {a} {es} h =
+    record {
+      long = long-again w a (h .long);
+      holds =
+          record {
+            bytes = ap₂ (λ (m : ℕ) (x : List Entry). areaOf m (added m x (oldBy w a))) (journal-long b h) (entries-held b h);
+            used = ap₂ (λ (m : ℕ) (x : List Entry). length (encodes (added m x (oldBy w a)))) (journal-long b h) (entries-held b h);
+          };
+      good = good-added held size es (oldBy w a) (h .good) (old-good w a (h .long) b);
+      fits = added-fits size es (oldBy w a) (omega (arith, length-encode (oldBy w a), old-long w a (h .long), w .able .run .few-bytes, b .least));
+    }

@@ -2,27 +2,22 @@
 use Prim.Native.Nat.{ℕ}
 use Prim.Native.String.{String}
 use mathlib.Core.Path.{_≡_}
-use mathlib.Core.Bool.{true, cond}
+use mathlib.Core.Bool.{cond}
 use mathlib.Core.List.{List, [], _∷_}
 use lib.Dec.{eqb}
 use lib.ListN.{length, take, replicate}
 use Rattle.digits.specs.Text.{text}
-use Rattle.queries.specs.Replies.{zeroRecord}
-use Rattle.refusals.specs.Call.{Call, Outcome}
-use Rattle.link.specs.Answer.{answerOf, backOf}
-use Rattle.demands.specs.History.{Conduct, ours, Areas, fresh, Sent, Event, frame, stepBack, callOn, backOn, left, Past, past, entries, EveryHistory}
+use Rattle.areas.specs.Kinds.{columnsTag}
+use Rattle.journal.specs.Journal.{entryFor}
+use Rattle.axes.specs.Records.{zeroRecord, eightAxes}
+use Rattle.calls.specs.Calls.{Areas, Sent, fresh, lengthsOf, heldIn, putIn, withEntries}
+use Rattle.link.specs.Answer.{unanswered, answerOf, backOf}
+use Rattle.demands.specs.History.{Conduct, ours, Event, frame, stepBack, callOn, Past, past, entries, EveryHistory}
 
 -- a frame to station 99H, all eight axes fitted
 abbrev pub send : String → Sent
 send s =
-    record {
-      frame = text s;
-      eight = true;
-      records = replicate 8 zeroRecord;
-      station = 0x99;
-      fitted = 0xFF;
-      reply = replicate 1024 0;
-    }
+    record { frame = text s; axes = eightAxes (replicate 8 zeroRecord); settings = record { station = 0x99; fitted = 0xFF }; reply = replicate 1024 0 }
 
 -- the lot code 0047 from column 300 on; point 1; point 1 cleared; the count; an unknown message
 abbrev pub lotCode : Sent
@@ -41,8 +36,11 @@ abbrev pub unknown : Sent
 unknown = send "!99299@@\r\n"
 
 -- one point and the least journal, from fresh
+abbrev pub smallest : Areas
+smallest = fresh (record { points = 1 }) 340
+
 abbrev pub small : Conduct → List Event → Past
-small board events = past board (record { areas = fresh 1 340; standing-writes = [] }) events
+small board events = past board (record { areas = smallest; standing-writes = [] }) events
 
 pub record Worked : Type 0 where
   -- two writes, a query and a refused frame, and a step back: it takes away the second write, and nothing else
@@ -51,58 +49,43 @@ pub record Worked : Type 0 where
       take 4 (small ours (frame lotCode ∷ frame pointOne ∷ frame count ∷ frame unknown ∷ stepBack ∷ []) .areas .columns)
       ≡ 0x30 ∷ 0x30 ∷ 0x34 ∷ 0x37 ∷ []
   -- a second one takes away the first, and all is fresh; a third is refused
-  pub all-taken : small ours (frame lotCode ∷ frame pointOne ∷ stepBack ∷ stepBack ∷ []) .areas ≡ fresh 1 340
-  pub none-left : backOf (backOn (small ours (frame lotCode ∷ frame pointOne ∷ stepBack ∷ stepBack ∷ []) .areas)) .number ≡ 9
+  pub all-taken : small ours (frame lotCode ∷ frame pointOne ∷ stepBack ∷ stepBack ∷ []) .areas ≡ smallest
+  pub none-left : backOf (small ours (frame lotCode ∷ frame pointOne ∷ stepBack ∷ stepBack ∷ []) .areas) .number ≡ 9
   -- eight writes of 45 bytes each: the journal has room for seven
-  pub oldest-dropped :
-      length
-      (entries
-      (small ours (frame clearOne ∷ frame clearOne ∷ frame clearOne ∷ frame clearOne ∷ frame clearOne ∷ frame clearOne ∷ frame clearOne ∷ frame clearOne ∷ []) .areas))
-      ≡ 7
+  pub oldest-dropped : length (entries (small ours (replicate 8 (frame clearOne)) .areas)) ≡ 7
 
--- a call over other areas
-abbrev pub over : Call → Areas → Call
-over c a =
-    callOn a
-    (record {
-      frame = c .frame;
-      eight = c .eight;
-      records = c .records;
-      station = c .station;
-      fitted = c .fitted;
-      reply = c .reply;
-    })
-
--- an outcome with other columns
-abbrev pub withColumns : Outcome → List ℕ → Outcome
-withColumns o columns = record { number = o .number; text = o .text; points = o .points; columns = columns; journal = o .journal; used = o .used }
+-- every column set to a byte
+abbrev pub columnsAll : ℕ → Areas → Areas
+columnsAll b a = putIn (heldIn (lengthsOf a)) (entryFor columnsTag 300 (replicate 700 b)) a
 
 -- an entry with the new bytes in place of the old: the write is done over areas that have it already
-abbrev pub newBytes : Conduct
-newBytes =
-    record {
-      answer = λ c. answerOf (over c (record { points = answerOf c .points; columns = answerOf c .columns; journal = c .journal; used = c .used }));
-      back = backOf;
-    }
+abbrev pub entersNew : Conduct
+entersNew = record { answer = λ c. answerOf (callOn (withEntries (entries (c .areas)) (answerOf c .areas)) (c .sent)); back = backOf }
 
 -- a step back that also clears the columns
 abbrev pub clears : Conduct
-clears = record { answer = answerOf; back = λ c. withColumns (backOf c) (replicate 700 0) }
+clears = record { answer = answerOf; back = λ a. unanswered (backOf a .number) (columnsAll 0 (backOf a .areas)) }
 
 -- a refusal that writes
 abbrev pub refusalWrites : Conduct
-refusalWrites = record { answer = λ c. cond (eqb (answerOf c .number) 0) (answerOf c) (withColumns (answerOf c) (replicate 700 0x30)); back = backOf }
+refusalWrites =
+    record {
+      answer = λ c.
+          cond (eqb (answerOf c .number) 0) (answerOf c)
+          (record { number = answerOf c .number; text = answerOf c .text; areas = columnsAll 0x30 (answerOf c .areas) });
+      back = backOf;
+    }
 
 -- a board that forgets its entries at each frame
 abbrev pub forgets : Conduct
-forgets = record { answer = λ c. answerOf (over c (record { points = c .points; columns = c .columns; journal = c .journal; used = 0 })); back = backOf }
+forgets = record { answer = λ c. answerOf (callOn (withEntries [] (c .areas)) (c .sent)); back = backOf }
 
 -- a step back that takes nothing away
 abbrev pub takesNothing : Conduct
-takesNothing = record { answer = answerOf; back = λ c. record { number = backOf c .number; text = []; points = c .points; columns = c .columns; journal = c .journal; used = c .used } }
+takesNothing = record { answer = answerOf; back = λ a. unanswered (backOf a .number) a }
 
 pub record Broken : Type 0 where
-  pub new-bytes : EveryHistory newBytes → ⊥
+  pub enters-new : EveryHistory entersNew → ⊥
   pub clears-too : EveryHistory clears → ⊥
   pub refusal-writes : EveryHistory refusalWrites → ⊥
   pub forgets-entries : EveryHistory forgets → ⊥

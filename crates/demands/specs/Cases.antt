@@ -1,61 +1,62 @@
 -- Document 01, "Proved cases", together: one table and one statement, in the documents' own strings.
 use Prim.Native.Nat.{ℕ}
 use mathlib.Core.Path.{_≡_}
-use mathlib.Core.Bool.{true}
+use mathlib.Core.Bool.{false}
 use mathlib.Core.List.{List, [], _∷_, _++_}
 use lib.IntN.{negsuc}
 use lib.ListN.{replicate}
 use Rattle.digits.specs.Text.{text}
-use Rattle.finder.specs.declared.Found.the-variants.{Nothing}
 use Rattle.frames.specs.Frame.{sumOf, scOf}
+use Rattle.finder.specs.declared.Found.the-variants.{Nothing}
 use Rattle.finder.specs.Find.{findIn}
+use Rattle.areas.specs.Kinds.{pointsTag}
 use Rattle.points.specs.Units.{position}
 use Rattle.points.specs.Point.{positionOf}
-use Rattle.messages.specs.declared.Asked.the-variants.{ListPoints, NotHeld}
+use Rattle.axes.specs.Records.{zeroRecord, eightAxes}
+use Rattle.messages.specs.declared.table.Follows.the-variants.{Nothing as NoMore}
+use Rattle.messages.specs.declared.table.Action.the-variants.{ListPoints}
+use Rattle.messages.specs.declared.table.Message.{Message}
+use Rattle.messages.specs.declared.Asked.the-variants.{Refused, Order}
+use Rattle.messages.specs.Table.{row}
 use Rattle.messages.specs.Asked.{askedOf}
-use Rattle.queries.specs.Replies.{zeroRecord}
-use Rattle.refusals.specs.Call.{Call}
+use Rattle.calls.specs.Calls.{Call, areasOf, callOf}
 use Rattle.link.specs.Answer.{answerOf}
 
--- the bench: station 99H, N = 500, all eight axes, zero records, journal 32,768, fresh but for the columns
+-- "station 99H, N = 500, all eight axes, zero records, journal 32,768, fresh" ("Bench listing"), but for the columns
 abbrev pub bench : List ℕ → List ℕ → Call
 bench columns frame =
-    record {
-      frame = frame;
-      points = replicate 20000 0;
-      columns = columns;
-      journal = replicate 32768 0;
-      used = 0;
-      eight = true;
-      records = replicate 8 zeroRecord;
-      station = 0x99;
-      fitted = 0xFF;
-      reply = replicate 1024 0;
-    }
+    callOf frame (eightAxes (replicate 8 zeroRecord)) (record { station = 0x99; fitted = 0xFF }) (replicate 1024 0)
+    (areasOf (replicate 20000 0) columns (replicate 32768 0) (record { used = 0 }))
 
-abbrev pub fresh : List ℕ
-fresh = replicate 700 0
+-- fresh columns
+abbrev pub blank : List ℕ
+blank = replicate 700 0
+
+-- 209H, "effective point query" ("What the board answers"; 000, section 4-3-5): its row of the table
+abbrev pub listPoints : Message
+listPoints = row 0x209 0 3 3 pointsTag NoMore ListPoints false
 
 pub record ProvedCases : Type 0 where
   -- (1) "the sum of `!99209001005` is 254H, SC 54"
   pub case1 : (sumOf (text "!99209001005") ≡ 0x254) × (scOf (text "!99209001005") ≡ text "54")
   -- (2) "same with SC 55: refusal 7"; (3) "with @@: not refused for its SC"
-  pub case2 : answerOf (bench fresh (text "!9920900100555\r\n")) .number ≡ 7
-  pub case3 : answerOf (bench fresh (text "!99209001005@@\r\n")) .number ≡ 0
+  pub case2 : answerOf (bench blank (text "!9920900100555\r\n")) .number ≡ 7
+  pub case3 : answerOf (bench blank (text "!99209001005@@\r\n")) .number ≡ 0
   -- (4) to (6) "the bench frames"
-  pub case4 : answerOf (bench fresh (text "!99200001234567829\r\n")) .text ≡ text "#9920000123456782B\r\n"
-  pub case5 : answerOf (bench fresh (text "!9924400100103001E001E00640000C350FFFFFFFFF3\r\n")) .text ≡ text "#9924400100151\r\n"
-  pub case6 : answerOf (bench fresh (text "!99299@@\r\n")) .text ≡ text "&991012A\r\n"
+  pub case4 : answerOf (bench blank (text "!99200001234567829\r\n")) .text ≡ text "#9920000123456782B\r\n"
+  pub case5 : answerOf (bench blank (text "!9924400100103001E001E00640000C350FFFFFFFFF3\r\n")) .text ≡ text "#9924400100151\r\n"
+  pub case6 : answerOf (bench blank (text "!99299@@\r\n")) .text ≡ text "&991012A\r\n"
   -- (7) "`!992100012C0490` with columns 300 to 303 holding 30 30 34 37 replies `#992100012C043030343729`"
   pub case7 : answerOf (bench (0x30 ∷ 0x30 ∷ 0x34 ∷ 0x37 ∷ replicate 696 0) (text "!992100012C0490\r\n")) .text ≡ text "#992100012C043030343729\r\n"
   -- (8) "start 3E7 count 01 is column 999, count 02 is 106"
   pub case8 : (answerOf (bench (replicate 699 0 ++ (0x41 ∷ [])) (text "!99210003E701@@\r\n")) .text ≡ text "#99210003E70141FD\r\n")
-      × (answerOf (bench fresh (text "!99210003E702@@\r\n")) .number ≡ 106)
+      × (answerOf (bench blank (text "!99210003E702@@\r\n")) .number ≡ 106)
   -- (9) "number 010 is point 16"
-  pub case9 : askedOf 500 0xFF (text "!99209010001@@\r\n") ≡ ListPoints 16 1
+  pub case9 : askedOf (record { points = 500 }) 0xFF (text "!99209010001@@\r\n") ≡ Order listPoints 16 1
   -- (10) "position 80000000 is -2,147,483,648"
   pub case10 : positionOf (text "80000000") ≡ position (negsuc 2147483647)
   -- (11) "empty input: nothing found"
   pub case11 : findIn [] ≡ Nothing 0
   -- (12) "start 5DC is held with N = 1,500, 5DD isn't"
-  pub case12 : (askedOf 1500 0xFF (text "!992095DC001@@\r\n") ≡ ListPoints 1500 1) × (askedOf 1500 0xFF (text "!992095DD001@@\r\n") ≡ NotHeld)
+  pub case12 : (askedOf (record { points = 1500 }) 0xFF (text "!992095DC001@@\r\n") ≡ Order listPoints 1500 1)
+      × (askedOf (record { points = 1500 }) 0xFF (text "!992095DD001@@\r\n") ≡ Refused 106)

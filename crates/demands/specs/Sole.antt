@@ -1,31 +1,30 @@
--- Two results that satisfy a contract are equal.
+-- Document 01, "What the promises say": "Show that two results which satisfy it are equal." Each public call's contract, in turn.
 use Prim.Native.Nat.{ℕ}
 use mathlib.Core.Path.{_≡_}
 use mathlib.Core.List.{List}
 use Rattle.finder.specs.declared.Found.{Found}
 use Rattle.finder.specs.Find.{findIn, partOf}
+use Rattle.calls.specs.Calls.{Areas, Call}
 use Rattle.link.specs.declared.Answered.{Answered}
 use Rattle.link.specs.declared.Back.{Back}
-use Rattle.refusals.specs.Call.{Outcome}
 use Rattle.link.specs.Contract.{Answers, StepsBack}
 use Rattle.board.specs.Calls.{Receives, answeredOf, backedOf}
 
--- `answer`: every number and every lent byte
+-- `answer` and `answer_lent`: every number and every lent byte
 abbrev pub OneAnswer : Type 0
 OneAnswer =
-    (o : Outcome) (r r′ : Answered) (p p′ c c′ j j′ reply a a′ : List ℕ) → Answers o r p c j reply a → Answers o r′ p′ c′ j′ reply a′
-    → (r ≡ r′) × (p ≡ p′) × (c ≡ c′) × (j ≡ j′) × (a ≡ a′)
+    (c : Call) (r r′ : Answered) (a a′ : Areas) (reply reply′ : List ℕ)
+    → Answers c r a reply → Answers c r′ a′ reply′ → (r ≡ r′) × (a ≡ a′) × (reply ≡ reply′)
 
 -- `step_back`
 abbrev pub OneStepBack : Type 0
 OneStepBack =
-    (o : Outcome) (r r′ : Back) (p p′ c c′ j j′ : List ℕ) → StepsBack o r p c j → StepsBack o r′ p′ c′ j′
-    → (r ≡ r′) × (p ≡ p′) × (c ≡ c′) × (j ≡ j′)
+    (before : Areas) (r r′ : Back) (a a′ : Areas) → StepsBack before r a → StepsBack before r′ a′ → (r ≡ r′) × (a ≡ a′)
 
--- the finder, `find` and `frame_in`: what is found, and the part of the received bytes
+-- the finder, `find` and `frame_in`: what is found, and the part of the received bytes where that was found
 pub record OneFound (received : List ℕ) : Type 0 where
   pub found : (r r′ : Found) → r ≡ findIn received → r′ ≡ findIn received → r ≡ r′
-  pub part : (r r′ : List ℕ) → r ≡ partOf (findIn received) received → r′ ≡ partOf (findIn received) received → r ≡ r′
+  pub part : (f : Found) (r r′ : List ℕ) → r ≡ partOf f received → r′ ≡ partOf f received → r ≡ r′
 
 -- `cabinet_receive`: its code, and the numbers behind its three pointers
 abbrev pub OneReceive : Type 0
@@ -36,11 +35,12 @@ OneReceive =
 -- `cabinet_answer`: its number, `*reply_length`, `*used`, and every lent byte
 abbrev pub OneCabinetAnswer : Type 0
 OneCabinetAnswer =
-    (o : Outcome) (n n′ l l′ u u′ : ℕ) (p p′ c c′ j j′ reply a a′ : List ℕ) → Answers o (answeredOf n l u) p c j reply a → Answers o (answeredOf n′ l′ u′) p′ c′ j′ reply a′
-    → (n ≡ n′) × (l ≡ l′) × (u ≡ u′) × (p ≡ p′) × (c ≡ c′) × (j ≡ j′) × (a ≡ a′)
+    (c : Call) (n n′ l l′ u u′ : ℕ) (a a′ : Areas) (reply reply′ : List ℕ)
+    → Answers c (answeredOf n l u) a reply → Answers c (answeredOf n′ l′ u′) a′ reply′
+    → (n ≡ n′) × (l ≡ l′) × (u ≡ u′) × (a ≡ a′) × (reply ≡ reply′)
 
 -- `cabinet_step_back`: its number, `*used`, and every lent byte
 abbrev pub OneCabinetBack : Type 0
 OneCabinetBack =
-    (o : Outcome) (n n′ u u′ : ℕ) (p p′ c c′ j j′ : List ℕ) → StepsBack o (backedOf n u) p c j → StepsBack o (backedOf n′ u′) p′ c′ j′
-    → (n ≡ n′) × (u ≡ u′) × (p ≡ p′) × (c ≡ c′) × (j ≡ j′)
+    (before : Areas) (n n′ u u′ : ℕ) (a a′ : Areas)
+    → StepsBack before (backedOf n u) a → StepsBack before (backedOf n′ u′) a′ → (n ≡ n′) × (u ≡ u′) × (a ≡ a′)

@@ -10,24 +10,35 @@ use Rattle.digits.specs.Laid.{laid}
 use Rattle.digits.specs.Text.{text}
 use Rattle.frames.specs.Frame.{command, normal, CR, LF, contentIn, scOf, replyOf}
 use Rattle.areas.specs.declared.kinds.Kind.{Kind}
-use Rattle.areas.specs.Kinds.{pointsOf, columnsOf, placeOf, runOf}
+use Rattle.areas.specs.Kinds.{pointsTag, columnsTag, pointsOf, kindOf, placeOf, runOf}
 use Rattle.points.specs.Point.{lengthOf, effectiveIn}
-use Rattle.messages.specs.declared.Message.{Message}
-use Rattle.messages.specs.declared.Message.the-variants.{Write, Clear, Change}
-use Rattle.messages.specs.Layout.{messageOf, startOf, countOf}
+use Rattle.messages.specs.declared.table.Message.{Message}
+use Rattle.messages.specs.declared.table.Named.the-variants.{Known}
+use Rattle.messages.specs.Table.{messageOf, startIn, countIn}
 use Rattle.queries.specs.Replies.{joined}
-use Rattle.refusals.specs.Call.{Call, heldIn}
-use Rattle.link.specs.Answer.{answerOf}
-use Rattle.demands.specs.Cases.{bench, fresh}
-use Rattle.demands.specs.History.{callOn, left}
+use Rattle.calls.specs.Calls.{Areas, Call, Outcome, callOf, lengthsOf, heldIn, areaIn}
+use Rattle.link.specs.Answer.{held, rest, answerOf}
+use Rattle.demands.specs.Cases.{bench, blank}
 
--- a message's frame, accepted; what is lent as the journal is bytes
-pub record Accepted (m : Message) (c : Call) : Type 0 where
-  pub message : messageOf (c .frame) ≡ m
+-- a frame's content ("Frame"), and the start number and the count that its message reads in it ("Each message")
+abbrev pub content : Call → List ℕ
+content c = contentIn (c .sent .frame)
+
+abbrev pub startOf : Message → Call → ℕ
+startOf m c = startIn m (content c)
+
+abbrev pub countOf : Message → Call → ℕ
+countOf m c = countIn m (content c)
+
+-- the frame of a message ("What the board answers"), by the ID of its row in the table, accepted; what is lent as the journal is bytes
+pub record Accepted (id : ℕ) (c : Call) : Type 0 where
+  pub message : Message
+  pub named : message .id ≡ id
+  pub known : messageOf (c .sent .frame) ≡ Known message
   pub number : answerOf c .number ≡ 0
-  pub bytes : (i : ℕ) → getD (c .journal) i 0 < 256
+  pub bytes : (i : ℕ) → getD (c .areas .journal) i 0 < 256
 
--- a command: header, station, ID and content, an SC that is true or '@@', CR LF
+-- a command ("Frame"): header, station, ID and content, an SC that is true or '@@', CR LF
 abbrev pub before : ℕ → List ℕ → List ℕ
 before station said = command ∷ (digitsOf 2 station ++ said)
 
@@ -36,35 +47,35 @@ commandOf checked station said = before station said ++ (cond checked (scOf (bef
 
 -- the call after a call: another frame, over all that the answer left
 abbrev pub nextCall : Call → List ℕ → Call
-nextCall c frame =
-    callOn (left (answerOf c))
-    (record {
-      frame = frame;
-      eight = c .eight;
-      records = c .records;
-      station = c .station;
-      fitted = c .fitted;
-      reply = laid (c .reply) 0 (answerOf c .text);
-    })
+nextCall c frame = callOf frame (c .sent .axes) (c .sent .settings) (laid (c .sent .reply) 0 (answerOf c .text)) (answerOf c .areas)
 
--- asked after a call, with a true SC and with '@@', the board accepts and says
+-- what comes back where this is asked after a call, with a true SC or with '@@'
+abbrev pub nextAnswer : Call → List ℕ → Bool → Outcome
+nextAnswer c asked checked = answerOf (nextCall c (commandOf checked (c .sent .settings .station) asked))
+
+-- the board accepts it ("An accepted call has number 0"), and says
 pub record Says (c : Call) (asked said : List ℕ) : Type 0 where
-  pub number : (checked : Bool) → answerOf (nextCall c (commandOf checked (c .station) asked)) .number ≡ 0
-  pub text : (checked : Bool) → answerOf (nextCall c (commandOf checked (c .station) asked)) .text ≡ replyOf normal (c .station) said
+  pub number : (checked : Bool) → nextAnswer c asked checked .number ≡ 0
+  pub text : (checked : Bool) → nextAnswer c asked checked .text ≡ replyOf normal (c .sent .settings .station) said
 
--- what stands before a run of a kind and behind it is as before
+-- what stands before a run of a kind and behind it is as before ("The areas")
 pub record Outside (k : Kind) (start count : ℕ) (area area′ : List ℕ) : Type 0 where
   pub before-it : (i : ℕ) → i < placeOf k start → getD area′ i 0 ≡ getD area i 0
   pub behind-it : (i : ℕ) → placeOf k start + count * k .unit ≤ i → getD area′ i 0 ≡ getD area i 0
   pub as-long : length area′ ≡ length area
 
--- after an accepted 24EH a 210H of the same columns says the very content that was sent: program, start, count and every digit
-pub record CodesSurvive (c : Call) : Type 0 where
-  pub read-back : Says c (text "210" ++ take 7 (contentIn (c .frame))) (text "210" ++ contentIn (c .frame))
-  pub others : Outside columnsOf (startOf Change (contentIn (c .frame))) (countOf Change (contentIn (c .frame))) (c .columns) (answerOf c .columns)
-  pub points : answerOf c .points ≡ c .points
+-- "Each message": nothing is changed but what it names, neither the rest of its kind's area nor the area of another kind
+pub record OnlyNamed (m : Message) (c : Call) : Type 0 where
+  pub outside :
+      Outside (kindOf (held c) (m .tag)) (startOf m c) (countOf m c) (areaIn (m .tag) (c .areas)) (areaIn (m .tag) (answerOf c .areas))
+  pub others : (tag : ℕ) → (tag ≡ m .tag → ⊥) → areaIn tag (answerOf c .areas) ≡ areaIn tag (c .areas)
 
--- the points that digits send, each with its number before its very digits
+-- "Each message": after a 24EH a 210H of the same columns says the very content that was sent: program, start, count and every digit
+pub record CodesSurvive (m : Message) (c : Call) : Type 0 where
+  pub kind : m .tag ≡ columnsTag
+  pub read-back : Says c (text "210" ++ take 7 (content c)) (text "210" ++ content c)
+
+-- the points that a 244H's digits send, each with its number before its very digits (as 209H lists them, 4-3-5)
 unfoldable pub sent : ℕ → ℕ → List ℕ → List (List ℕ)
 sent zero number digits = []
 sent (suc count) number digits = (digitsOf 3 number ++ take (lengthOf digits) digits) ∷ sent count (suc number) (drop (lengthOf digits) digits)
@@ -74,55 +85,57 @@ unfoldable pub fitting : ℕ → List (List ℕ) → List (List ℕ)
 fitting room [] = []
 fitting room (s ∷ ss) = cond (leb (length s) room) (s ∷ fitting (room - length s) ss) []
 
-abbrev pub listedOf : List ℕ → List (List ℕ)
-listedOf content = fitting 1011 (sent (countOf Write content) (startOf Write content) (drop 6 content))
+abbrev pub listedOf : Message → Call → List (List ℕ)
+listedOf m c = fitting 1011 (sent (countOf m c) (startOf m c) (rest c m))
 
--- the effective slots among those that a message names, before it
-abbrev pub effectiveBefore : Call → ℕ → ℕ → ℕ
-effectiveBefore c start count = effectiveIn count (runOf (pointsOf (heldIn (c .points))) start count (c .points))
+-- "slots with a non-zero pattern": all of them, and those among the slots that a message names, before it
+abbrev pub effectiveOf : Areas → ℕ
+effectiveOf a = effectiveIn (heldIn (lengthsOf a) .points) (a .points)
 
--- after an accepted 244H a 209H of those points lists each, as many as fit, with the very digits that were sent; 208H counts each effective slot once
-pub record PointsSurvive (c : Call) : Type 0 where
-  pub listed : Says c (text "209" ++ take 6 (contentIn (c .frame))) (text "209" ++ (digitsOf 3 (length (listedOf (contentIn (c .frame)))) ++ joined (listedOf (contentIn (c .frame)))))
-  pub counted : Says c (text "208") (text "208" ++ digitsOf 3 (effectiveIn (heldIn (c .points)) (answerOf c .points)))
-  pub once :
-      effectiveIn (heldIn (c .points)) (answerOf c .points) + effectiveBefore c (startOf Write (contentIn (c .frame))) (countOf Write (contentIn (c .frame)))
-      ≡ effectiveIn (heldIn (c .points)) (c .points) + countOf Write (contentIn (c .frame))
-  pub others : Outside (pointsOf (heldIn (c .points))) (startOf Write (contentIn (c .frame))) (countOf Write (contentIn (c .frame))) (c .points) (answerOf c .points)
-  pub columns : answerOf c .columns ≡ c .columns
+abbrev pub effectiveNamed : Message → Call → ℕ
+effectiveNamed m c = effectiveIn (countOf m c) (runOf (pointsOf (held c)) (startOf m c) (countOf m c) (c .areas .points))
 
--- after an accepted 246H those points are not listed and not counted, and every other slot is as before
-pub record PointsCleared (c : Call) : Type 0 where
-  pub listed : Says c (text "209" ++ contentIn (c .frame)) (text "209000")
-  pub counted : Says c (text "208") (text "208" ++ digitsOf 3 (effectiveIn (heldIn (c .points)) (answerOf c .points)))
-  pub once :
-      effectiveIn (heldIn (c .points)) (answerOf c .points) + effectiveBefore c (startOf Clear (contentIn (c .frame))) (countOf Clear (contentIn (c .frame)))
-      ≡ effectiveIn (heldIn (c .points)) (c .points)
-  pub others : Outside (pointsOf (heldIn (c .points))) (startOf Clear (contentIn (c .frame))) (countOf Clear (contentIn (c .frame))) (c .points) (answerOf c .points)
-  pub columns : answerOf c .columns ≡ c .columns
+-- 208H counts each effective slot once: those that were named are gone, and so many are new
+pub record Counted (m : Message) (c : Call) (new : ℕ) : Type 0 where
+  pub said : Says c (text "208") (text "208" ++ digitsOf 3 (effectiveOf (answerOf c .areas)))
+  pub once : effectiveOf (answerOf c .areas) + effectiveNamed m c ≡ effectiveOf (c .areas) + new
 
--- every accepted call of the three, on every board
+-- "Each message": after a 244H a 209H of those points lists each, as many as fit, with the very digits that were sent, and each is counted
+pub record PointsSurvive (m : Message) (c : Call) : Type 0 where
+  pub kind : m .tag ≡ pointsTag
+  pub listed : Says c (text "209" ++ take 6 (content c)) (text "209" ++ (digitsOf 3 (length (listedOf m c)) ++ joined (listedOf m c)))
+  pub counted : Counted m c (countOf m c)
+
+-- "Each message": after a 246H those points are not listed and not counted
+pub record PointsCleared (m : Message) (c : Call) : Type 0 where
+  pub kind : m .tag ≡ pointsTag
+  pub listed : Says c (text "209" ++ content c) (text "209000")
+  pub counted : Counted m c 0
+
+-- every accepted call of the three, on every board; whatever the message, all that it does not name is as before
 pub record EveryDigitSurvives : Type 0 where
-  pub codes : (c : Call) → Accepted Change c → CodesSurvive c
-  pub points : (c : Call) → Accepted Write c → PointsSurvive c
-  pub cleared : (c : Call) → Accepted Clear c → PointsCleared c
+  pub codes : (c : Call) (a : Accepted 0x24E c) → CodesSurvive (a .message) c
+  pub points : (c : Call) (a : Accepted 0x244 c) → PointsSurvive (a .message) c
+  pub cleared : (c : Call) (a : Accepted 0x246 c) → PointsCleared (a .message) c
+  pub others : (id : ℕ) (c : Call) (a : Accepted id c) → OnlyNamed (a .message) c
 
 -- such calls are made, each to a fresh bench: a 24EH of the lot code 0047, the bench listing's 244H of point 1, and a 246H of point 1
 abbrev pub codeCall : Call
-codeCall = bench fresh (text "!9924E0012C0430303437@@\r\n")
+codeCall = bench blank (text "!9924E0012C0430303437@@\r\n")
 
 abbrev pub pointCall : Call
-pointCall = bench fresh (text "!9924400100103001E001E00640000C350FFFFFFFFF3\r\n")
+pointCall = bench blank (text "!9924400100103001E001E00640000C350FFFFFFFFF3\r\n")
 
 abbrev pub clearCall : Call
-clearCall = bench fresh (text "!99246001001@@\r\n")
+clearCall = bench blank (text "!99246001001@@\r\n")
 
 -- the statement's premises are met by them, and this is what it says of them
 pub record Examples : Type 0 where
-  pub code : Accepted Change codeCall
-  pub point : Accepted Write pointCall
-  pub clear : Accepted Clear clearCall
+  pub code : Accepted 0x24E codeCall
+  pub point : Accepted 0x244 pointCall
+  pub clear : Accepted 0x246 clearCall
   -- asked after them: the frame of proved case 7, and a 209H of point 1
   pub code-back : answerOf (nextCall codeCall (text "!992100012C0490\r\n")) .text ≡ text "#992100012C043030343729\r\n"
-  pub point-back : answerOf (nextCall pointCall (text "!99209001001@@\r\n")) .text ≡ replyOf normal 0x99 (text "20900100103001E001E00640000C350FFFFFFFF")
+  pub point-back :
+      answerOf (nextCall pointCall (text "!99209001001@@\r\n")) .text ≡ replyOf normal 0x99 (text "20900100103001E001E00640000C350FFFFFFFF")
   pub clear-back : answerOf (nextCall clearCall (text "!99209001001@@\r\n")) .text ≡ replyOf normal 0x99 (text "209000")

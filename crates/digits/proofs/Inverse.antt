@@ -5,12 +5,10 @@ use native.Mathlib.Nat.{pow-suc, pow-zero, le-of-suc-le-suc}
 use mathlib.Core.Path.{_≡_, refl, sym, ap, ap₂, _∙_}
 use mathlib.Core.Bool.{Bool, true, false, _&&_}
 use mathlib.Core.List.{List, [], _∷_, _++_, append-nil}
-use lib.Dec.{ltb}
 use lib.ListN.{length, take, drop, length-append}
-use borrow.Author.Tests.{ltb-true, lt-ltb}
-use Rattle.digits.specs.Digits.{digitOf, byteOf, allDigits, numberAfter, numberOf, digitsOf}
+use Rattle.digits.specs.Digits.{isDigit, worthOf, byteOf, allDigits, numberAfter, numberOf, digitsOf}
 use Rattle.digits.specs.Laws.{Inverse}
-use Rattle.digits.proofs.OneDigit.{digit-byte, byte-digit}
+use Rattle.digits.proofs.OneDigit.{worth-byte, byte-worth, below-sixteen}
 
 pub and-left : (a b : Bool) → a && b ≡ true → a ≡ true
 and-left true b e = refl
@@ -23,11 +21,11 @@ and-right false b e = cc
 -- reading goes on behind what was read
 pub after-append : (n : ℕ) (s t : List ℕ) → numberAfter n (s ++ t) ≡ numberAfter (numberAfter n s) t
 after-append n [] t = refl
-after-append n (b ∷ s) t = after-append (n * 16 + digitOf b) s t
+after-append n (b ∷ s) t = after-append (n * 16 + worthOf b) s t
 
 pub all-append : (s t : List ℕ) → allDigits (s ++ t) ≡ allDigits s && allDigits t
 all-append [] t = refl
-all-append (b ∷ s) t = go (ltb (digitOf b) 16) (all-append s t)
+all-append (b ∷ s) t = go (isDigit b) (all-append s t)
   where
     go : (p : Bool) → allDigits (s ++ t) ≡ allDigits s && allDigits t → p && allDigits (s ++ t) ≡ (p && allDigits s) && allDigits t
     go true e = e
@@ -48,15 +46,14 @@ as-many (suc w) n = simp (length-append, as-many w (n / 16)) (omega arith)
 pub are-digits : (width n : ℕ) → allDigits (digitsOf width n) ≡ true
 are-digits zero n = refl
 are-digits (suc w) n =
-    let d : digitOf (byteOf (n % 16)) < 16 = omega (arith, digit-byte (n % 16) (omega arith)) in
-    rw (all-append (digitsOf w (n / 16)) _, are-digits w (n / 16), lt-ltb _ _ d)
+    rw (all-append (digitsOf w (n / 16)) _, are-digits w (n / 16), worth-byte (n % 16) (omega arith) .1)
 
 value : (width n : ℕ) → n < 16 ^ width → numberOf (digitsOf width n) ≡ n
 value zero n h = omega (arith, pow-zero 16)
 value (suc w) n h =
     let p : 16 ^ suc w ≡ 16 ^ w * 16 = pow-suc 16 w in
     let e = value w (n / 16) (omega arith) in
-    after-append 0 (digitsOf w (n / 16)) _ ∙ rw (e, digit-byte (n % 16) (omega arith)) (omega arith)
+    after-append 0 (digitsOf w (n / 16)) _ ∙ rw (e, worth-byte (n % 16) (omega arith) .0) (omega arith)
 
 -- a list that is not empty is all of it but the last, and the last
 data Snoc : List ℕ → Type 0 where
@@ -69,20 +66,34 @@ last b (a ∷ s) = go (last a s)
     go : {t : List ℕ} → Snoc t → Snoc (b ∷ t)
     go (snoc t z) = snoc (b ∷ t) z
 
-module _ (w : ℕ) (ih : (s : List ℕ) → length s ≡ w → allDigits s ≡ true → (digitsOf w (numberOf s) ≡ s) × (numberOf s < 16 ^ w)) where
-  digits-last : {t : List ℕ} → Snoc t → length t ≡ suc w → allDigits t ≡ true → (digitsOf (suc w) (numberOf t) ≡ t) × (numberOf t < 16 ^ suc w)
-  digits-last (snoc s b) l a =
-      let k : length s ≡ w = omega (arith, simp length-append at l) in
-      let d : digitOf b < 16 = ltb-true _ _ (and-left _ _ (all-right s (b ∷ []) a)) in
-      let e = ih s k (all-left s (b ∷ []) a) in
-      let v : numberOf (s ++ (b ∷ [])) ≡ numberOf s * 16 + digitOf b = after-append 0 s (b ∷ []) in
-      let q : numberOf (s ++ (b ∷ [])) / 16 ≡ numberOf s = omega arith in
-      let r : numberOf (s ++ (b ∷ [])) % 16 ≡ digitOf b = omega arith in
-      let p : 16 ^ suc w ≡ 16 ^ w * 16 = pow-suc 16 w in
-      (rw (q, r, e .0, byte-digit b d), omega (arith, e .1))
+-- what any bytes write is below sixteen to their number
+below-last : (w : ℕ) → ((s : List ℕ) → length s ≡ w → numberOf s < 16 ^ w) → {t : List ℕ} → Snoc t → length t ≡ suc w → numberOf t < 16 ^ suc w
+below-last w ih (snoc s b) l =
+    let k : length s ≡ w = omega (arith, simp length-append at l) in
+    let e = ih s k in
+    let v : numberOf (s ++ (b ∷ [])) ≡ numberOf s * 16 + worthOf b = after-append 0 s (b ∷ []) in
+    let p : 16 ^ suc w ≡ 16 ^ w * 16 = pow-suc 16 w in
+    omega (arith, below-sixteen b)
 
-digits : (width : ℕ) (s : List ℕ) → length s ≡ width → allDigits s ≡ true → (digitsOf width (numberOf s) ≡ s) × (numberOf s < 16 ^ width)
-digits zero [] l a = (refl, omega (arith, pow-zero 16))
+below : (width : ℕ) (s : List ℕ) → length s ≡ width → numberOf s < 16 ^ width
+below zero [] l = omega (arith, pow-zero 16)
+below zero (b ∷ s) l = absurd (omega arith)
+below (suc w) [] l = absurd (omega arith)
+below (suc w) (b ∷ s) l = below-last w (below w) (last b s) l
+
+digits-last : (w : ℕ) → ((s : List ℕ) → length s ≡ w → allDigits s ≡ true → digitsOf w (numberOf s) ≡ s)
+    → {t : List ℕ} → Snoc t → length t ≡ suc w → allDigits t ≡ true → digitsOf (suc w) (numberOf t) ≡ t
+digits-last w ih (snoc s b) l a =
+    let k : length s ≡ w = omega (arith, simp length-append at l) in
+    let d = below-sixteen b in
+    let e = ih s k (all-left s (b ∷ []) a) in
+    let v : numberOf (s ++ (b ∷ [])) ≡ numberOf s * 16 + worthOf b = after-append 0 s (b ∷ []) in
+    let q : numberOf (s ++ (b ∷ [])) / 16 ≡ numberOf s = omega arith in
+    let r : numberOf (s ++ (b ∷ [])) % 16 ≡ worthOf b = omega arith in
+    rw (q, r, e, byte-worth b (and-left _ _ (all-right s (b ∷ []) a)))
+
+digits : (width : ℕ) (s : List ℕ) → length s ≡ width → allDigits s ≡ true → digitsOf width (numberOf s) ≡ s
+digits zero [] l a = refl
 digits zero (b ∷ s) l a = absurd (omega arith)
 digits (suc w) [] l a = absurd (omega arith)
 digits (suc w) (b ∷ s) l a = digits-last w (digits w) (last b s) l a
@@ -91,8 +102,8 @@ pub inverse : (width : ℕ) → Inverse width
 inverse w =
     record {
       value-of-digits = value w;
-      digits-of-value = λ s l a. digits w s l a .0;
-      bound = λ s l a. digits w s l a .1;
+      digits-of-value = digits w;
+      bound = below w;
       as-many = as-many w;
       are-digits = are-digits w;
     }

@@ -1,3 +1,4 @@
+pub mod Bools
 pub mod ByRule
 pub mod OneDigit
 pub mod Inverse

@@ -8,37 +8,36 @@ use native.Mathlib.Nat.{pow-suc, pow-le-pow-right, add-assoc, add-zero}
 use native.Mathlib.Numerals.{add-one}
 use lib.ListN.{length, take, drop, getD, set, drop-of-length-le, length-drop}
 use lib.Seq.{drop-cons, take-all, take-at, take-take, getD-take, getD-at}
-use borrow.Author.Tests.{lt-ltb, le-ltb}
-use Rattle.digits.specs.Digits.{allDigits, digitOf, byteOf, numberAfter, digitsOf}
+use Rattle.digits.specs.Digits.{isDigit, worthOf, allDigits, byteOf, numberAfter, digitsOf}
 use Rattle.digits.specs.Laid.{laid}
-use Rattle.digits.proofs.OneDigit.{at-most}
+use Rattle.digits.proofs.OneDigit.{below-sixteen}
 use Rattle.digits.proofs.Laid.{laid-before, laid-nothing, length-laid}
 use Rattle.digits.proofs.Inverse.{as-many}
 
 module _ (s : List ℕ) (i : ℕ) where
-  pub all-next : i < length s → digitOf (getD s i 0) < 16 → allDigits (drop i s) ≡ allDigits (drop (i + 1) s)
-  all-next h d = rw (add-one, drop-cons s i 0 h, lt-ltb _ _ d)
+  pub all-next : i < length s → isDigit (getD s i 0) ≡ true → allDigits (drop i s) ≡ allDigits (drop (i + 1) s)
+  all-next h d = rw (add-one, drop-cons s i 0 h, d)
 
-  pub all-stop : i < length s → 16 ≤ digitOf (getD s i 0) → allDigits (drop i s) ≡ false
-  all-stop h d = rw (drop-cons s i 0 h, le-ltb _ _ d)
+  pub all-stop : i < length s → isDigit (getD s i 0) ≡ false → allDigits (drop i s) ≡ false
+  all-stop h d = rw (drop-cons s i 0 h, d)
 
   pub all-done : length s ≤ i → allDigits (drop i s) ≡ true
   all-done h = rw (drop-of-length-le s h)
 
-  pub number-next : (n : ℕ) → i < length s → numberAfter n (drop i s) ≡ numberAfter (n * 16 + digitOf (getD s i 0)) (drop (i + 1) s)
+  pub number-next : (n : ℕ) → i < length s → numberAfter n (drop i s) ≡ numberAfter (n * 16 + worthOf (getD s i 0)) (drop (i + 1) s)
   number-next n h = rw (add-one, drop-cons s i 0 h)
 
   pub number-done : (n : ℕ) → length s ≤ i → numberAfter n (drop i s) ≡ n
   number-done n h = rw (drop-of-length-le s h)
 
--- a byte that is no digit counts 16, so that i bytes write less than 17 to the i
-pub below-next : (n i b : ℕ) → n < 17 ^ i → n * 16 + digitOf b < 17 ^ (i + 1)
+-- i bytes write less than sixteen to the i
+pub below-next : (n i b : ℕ) → n < 16 ^ i → n * 16 + worthOf b < 16 ^ (i + 1)
 below-next n i b h =
-    let p : 17 ^ (i + 1) ≡ 17 ^ i * 17 = rw add-one (pow-suc 17 i) in
-    omega (arith, at-most b)
+    let p : 16 ^ (i + 1) ≡ 16 ^ i * 16 = rw add-one (pow-suc 16 i) in
+    omega (arith, below-sixteen b)
 
-pub below-fits : (i : ℕ) → i ≤ 8 → 17 ^ i ≤ 6975757441
-below-fits i h = pow-le-pow-right {n = 17} (omega arith) {i = i} {j = 8} h
+pub below-fits : (i : ℕ) → i ≤ 8 → 16 ^ i ≤ 4294967296
+below-fits i h = pow-le-pow-right {n = 16} (omega arith) {i = i} {j = 8} h
 
 -- the digits still to be laid, from the last one on
 pub record Left (at width n left rest : ℕ) (area₀ area : List ℕ) : Type 0 where

@@ -10,6 +10,6 @@ use Rattle.digits.specs.Digits.{allDigits, numberOf, digitsOf}
 pub record Inverse (width : ℕ) : Type 0 where
   pub value-of-digits : (n : ℕ) → n < 16 ^ width → numberOf (digitsOf width n) ≡ n
   pub digits-of-value : (s : List ℕ) → length s ≡ width → allDigits s ≡ true → digitsOf width (numberOf s) ≡ s
-  pub bound : (s : List ℕ) → length s ≡ width → allDigits s ≡ true → numberOf s < 16 ^ width
+  pub bound : (s : List ℕ) → length s ≡ width → numberOf s < 16 ^ width
   pub as-many : (n : ℕ) → length (digitsOf width n) ≡ width
   pub are-digits : (n : ℕ) → allDigits (digitsOf width n) ≡ true

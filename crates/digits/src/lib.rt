@@ -4,12 +4,28 @@ mod table;
 ghost use mathlib.Core.Path.{_≡_};
 ghost use Prim.Native.Nat.{_+_, _≤_, _<_};
 ghost use lib.ListN.{length};
-ghost use Rattle.digits.specs.Digits.{digitOf, byteOf, allDigits, numberOf, digitsOf, fieldOf};
+ghost use Rattle.digits.specs.Digits.{isDigit, worthOf, byteOf, allDigits, numberOf, digitsOf, fieldOf};
 ghost use Rattle.digits.specs.Laid.{laid};
 
-// What a byte is worth as a digit, 16 where it is none.
-pub fn digit(b: u8) -> u8
-    ensures { λ r. ⌜ r ≡ digitOf b ⌝ }
+// Whether a byte is admitted as a digit.
+pub fn is_digit(b: u8) -> bool
+    ensures { λ r. ⌜ r ≡ isDigit b ⌝ }
+{
+    if b < 0x30 {
+        return false;
+    }
+    if b <= 0x39 {
+        return true;
+    }
+    if b < 0x41 {
+        return false;
+    }
+    b <= 0x46
+}
+
+// What a digit is worth; any other byte is worth nothing.
+pub fn worth(b: u8) -> u8
+    ensures { λ r. ⌜ (r ≡ worthOf b) × (r < 16) ⌝ }
 {
     table::WORTH[b as usize]
 }
@@ -31,7 +47,7 @@ pub fn all_digits(s: &[u8]) -> bool
 {
     let mut i = 0;
     while i < s.len() {
-        if digit(s[i]) >= 16 {
+        if !is_digit(s[i]) {
             return false;
         }
         i += 1;
@@ -39,8 +55,9 @@ pub fn all_digits(s: &[u8]) -> bool
     true
 }
 
-fn wide(b: u8) -> u64
-    ensures { λ r. ⌜ r ≡ b ⌝ }
+// A byte as a number: its cast needs no proof where it is used.
+pub fn wide(b: u8) -> u64
+    ensures { λ r. ⌜ (r ≡ b) × (r < 256) ⌝ }
 {
     b as u64
 }
@@ -53,7 +70,7 @@ pub fn number(s: &[u8]) -> u64
     let mut n: u64 = 0;
     let mut i = 0;
     while i < s.len() {
-        n = n * 16 + wide(digit(s[i]));
+        n = n * 16 + wide(worth(s[i]));
         i += 1;
     }
     n

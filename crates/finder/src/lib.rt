@@ -126,11 +126,11 @@ pub fn find(received: &[u8]) -> Found
     Found::Wait { drop: start }
 }
 
-// The frame itself, as the part of the received bytes; empty with no frame.
-pub fn frame_in(received: &[u8]) -> &[u8]
-    ensures { λ r. ⌜ now r ≡ partOf (findIn (now (received .entry))) (now (received .entry)) ⌝ }
+// The frame itself, as the part of the received bytes where it was found; empty with no frame.
+pub fn frame_in(received: &[u8], found: Found) -> &[u8]
+    requires { ⌜ found ≡ findIn (now received) ⌝ }
+    ensures { λ r. ⌜ now r ≡ partOf found (now (received .entry)) ⌝ }
 {
-    let found = find(received);
     match found {
         Found::Frame { start, used } => &received[start..used],
         Found::Nothing { drop: _ } => &received[0..0],

@@ -7,6 +7,7 @@ use native.Mathlib.Nat.{add-sub-of-le}
 use native.Mathlib.Omega.{arith}
 use lib.ListN.{length, take, drop, set, replicate, drop-of-length-le, length-drop, length-append, length-replicate}
 use lib.Seq.{take-add, drop-at, length-take-le}
+use Rattle.areas.specs.declared.kinds.Held.{Held}
 use Rattle.areas.specs.Bytes.{twoOf}
 use Rattle.digits.specs.Laid.{laid}
 use Rattle.digits.proofs.Laid.{stored, laid-on, length-laid, take-laid}
@@ -15,15 +16,15 @@ use Rattle.journal.specs.Laws.{Holds}
 use Rattle.journal.proofs.Codec.{Bytes, bytes-take, encoding, length-encode}
 use Rattle.journal.proofs.Keeping.{kept-all}
 
--- five stores, one after the other
-pub five-stored : (d : List ℕ) (at a b c e f : ℕ) → at + 5 ≤ length d
-    → set (set (set (set (set d at a) (at + 1) b) (at + 2) c) (at + 3) e) (at + 4) f ≡ laid d at (a ∷ b ∷ c ∷ e ∷ f ∷ [])
-five-stored d at a b c e f h =
-    let p : at + 1 ≡ suc at = omega arith in
-    let q : at + 2 ≡ suc (suc at) = omega arith in
-    let r : at + 3 ≡ suc (suc (suc at)) = omega arith in
-    let s : at + 4 ≡ suc (suc (suc (suc at))) = omega arith in
-    rw (p, q, r, s) (stored d at (a ∷ b ∷ c ∷ e ∷ f ∷ []) (omega arith))
+-- one byte and two numbers, one behind the other
+pub head-laid : (d d₁ d₂ : List ℕ) (at tag many start : ℕ) → at + 5 ≤ length d
+    → d₁ ≡ laid (set d at tag) (at + 1) (twoOf many)
+    → d₂ ≡ laid d₁ (at + 3) (twoOf start)
+    → d₂ ≡ laid d at (tag ∷ (twoOf many ++ twoOf start))
+head-laid d d₁ d₂ at tag many start h e₁ e₂ =
+    let a : set d at tag ≡ laid d at (tag ∷ []) = stored d at (tag ∷ []) (omega arith) in
+    let b : d₁ ≡ laid d at (tag ∷ twoOf many) = e₁ ∙ rw a (laid-on d (tag ∷ []) (twoOf many) at (at + 1) refl (omega arith)) in
+    e₂ ∙ rw b (laid-on d (tag ∷ twoOf many) (twoOf start) at (at + 3) refl (omega arith))
 
 -- bytes laid to the very end
 pub laid-end : (d bs : List ℕ) (at : ℕ) → at + length bs ≡ length d → laid d at bs ≡ take at d ++ bs
@@ -68,25 +69,25 @@ kept-room es used size zero area u s h o =
     kept-all (used - 0) es (omega arith) ∙ sym (kept-all (area - size) es (omega arith))
 kept-room es used size (suc over) area u s h o = ap (λ (m : ℕ). kept m es) (omega arith)
 
-pub holds-added : (n : ℕ) (j j₁ j₂ : List ℕ) (used over gone : ℕ) (e : Entry) → Bytes j → used ≤ length j → whole n 0 (take used j) ≡ true
-    → 5 + length (e .old) ≤ length j
-    → over ≡ used + (length (e .old) + 5) - length j
+pub holds-added : (held : Held) (j j₁ j₂ : List ℕ) (used over gone : ℕ) (e : Entry) → Bytes j → used ≤ length j → whole held 0 (take used j) ≡ true
+    → 5 + length (e .bytes) ≤ length j
+    → over ≡ used + (length (e .bytes) + 5) - length j
     → gone ≤ length (take used j)
-    → drop gone (take used j) ≡ encodes (kept (length (take used j) - over) (entriesIn n 0 (take used j)))
+    → drop gone (take used j) ≡ encodes (kept (length (take used j) - over) (entriesIn held 0 (take used j)))
     → j₁ ≡ laid j 0 (take (used - gone) (drop gone j))
-    → j₂ ≡ take (used - gone) j₁ ++ (encode e ++ replicate (length j₁ - (used - gone + (5 + length (e .old)))) 0)
-    → Holds (length j) (added (length j) (entriesIn n 0 (take used j)) e) j₂ (used - gone + (length (e .old) + 5))
+    → j₂ ≡ take (used - gone) j₁ ++ (encode e ++ replicate (length j₁ - (used - gone + (5 + length (e .bytes)))) 0)
+    → Holds (length j) (added (length j) (entriesIn held 0 (take used j)) e) j₂ (used - gone + (length (e .bytes) + 5))
 unfolding added areaOf
-holds-added n j j₁ j₂ used over gone e bs hu w f o g c m p =
-    let es : List Entry = entriesIn n 0 (take used j) in
+holds-added held j j₁ j₂ used over gone e bs hu w f o g c m p =
+    let es : List Entry = entriesIn held 0 (take used j) in
     let left : ℕ = used - gone in
-    let le : length (encode e) ≡ 5 + length (e .old) = length-encode e in
+    let le : length (encode e) ≡ 5 + length (e .bytes) = length-encode e in
     let u : length (take used j) ≡ used = length-take-le used j hu in
     let s : length (take left (drop gone j)) ≡ left = length-take-le left (drop gone j) (simp length-drop (omega arith)) in
     let l : length j₁ ≡ length j = ap length m ∙ length-laid j 0 (take left (drop gone j)) (omega arith) in
     let t : take left j₁ ≡ encodes (kept (length (take used j) - over) es) =
     ap (take left) m ∙ take-laid j (take left (drop gone j)) left s ∙ take-of-drop gone used j (omega arith) hu ∙ c in
-    let v : length (encodes es) ≡ length (take used j) = ap length (encoding n (take used j) (bytes-take used j bs) w .1) in
+    let v : length (encodes es) ≡ length (take used j) = ap length (encoding held (take used j) (bytes-take used j bs) w .1) in
     let k : kept (length (take used j) - over) es ≡ kept (length j - length (encode e)) es =
     kept-room es (length (take used j)) (length (encode e)) over (length j) v (omega arith) (omega arith) (omega arith) in
     let b : encodes (kept (length j - length (encode e)) es ++ (e ∷ [])) ≡ take left j₁ ++ encode e =
@@ -94,11 +95,11 @@ holds-added n j j₁ j₂ used over gone e bs hu w f o g c m p =
     let x : length (take left j₁) ≡ left = length-take-le left j₁ (omega arith) in
     let z : length (encodes (kept (length j - length (encode e)) es ++ (e ∷ []))) ≡ left + length (encode e) =
     ap length b ∙ length-append (take left j₁) (encode e) ∙ ap (λ (i : ℕ). i + length (encode e)) x in
-    let q : length j₁ - (left + (5 + length (e .old))) ≡ length j - length (encodes (kept (length j - length (encode e)) es ++ (e ∷ []))) = omega arith in
+    let q : length j₁ - (left + (5 + length (e .bytes))) ≡ length j - length (encodes (kept (length j - length (encode e)) es ++ (e ∷ []))) = omega arith in
     record {
       bytes =
-          p ∙ sym (append-assoc (take left j₁) (encode e) (replicate (length j₁ - (left + (5 + length (e .old)))) 0))
-          ∙ ap (λ (r : List ℕ). r ++ replicate (length j₁ - (left + (5 + length (e .old)))) 0) (sym b)
+          p ∙ sym (append-assoc (take left j₁) (encode e) (replicate (length j₁ - (left + (5 + length (e .bytes)))) 0))
+          ∙ ap (λ (r : List ℕ). r ++ replicate (length j₁ - (left + (5 + length (e .bytes)))) 0) (sym b)
           ∙ ap (λ (i : ℕ). encodes (kept (length j - length (encode e)) es ++ (e ∷ [])) ++ replicate i 0) q;
       used = omega arith;
     }

@@ -8,13 +8,14 @@ use native.Mathlib.Omega.{arith}
 use lib.Arith.{digits-div, digits-mod, digits-lt}
 use lib.ListN.{length, take, drop, getD, length-drop, length-append, take-append-drop}
 use lib.Seq.{take-at, drop-at, length-take-le, getD-drop, take-nil}
+use Rattle.areas.specs.declared.kinds.Held.{Held}
 use Rattle.areas.specs.Bytes.{twoAt}
 use Rattle.areas.specs.Kinds.{kindOf}
 use Rattle.journal.specs.Journal.{Entry, encode, encodes, entryFits, frontOf, whole, entryAt, entriesIn}
 use Rattle.journal.specs.Laws.{Good, AllGood, ReadBack, Encoding}
 use Rattle.journal.proofs.Walk.{at-front, front-is, front-le, front-least, whole-some, whole-front, entries-front}
 
-pub length-encode : (e : Entry) → length (encode e) ≡ 5 + length (e .old)
+pub length-encode : (e : Entry) → length (encode e) ≡ 5 + length (e .bytes)
 unfolding encode
 length-encode e = omega arith
 
@@ -22,39 +23,39 @@ length-encode e = omega arith
 pub two-back : (x : ℕ) → x / 256 * 256 + x % 256 ≡ x
 two-back x = div-add-mod' x 256
 
-front-encode : (n : ℕ) (e : Entry) (r : List ℕ) → Good n e → frontOf n (encode e ++ r) ≡ length (encode e)
+front-encode : (held : Held) (e : Entry) (r : List ℕ) → Good held e → frontOf held (encode e ++ r) ≡ length (encode e)
 unfolding encode
-front-encode n e r g =
+front-encode held e r g =
     let l = encode e ++ r in
-    let a = length-append (e .old) r in
-    let w : twoAt l 1 ≡ 2 + length (e .old) = two-back (2 + length (e .old)) in
+    let a = length-append (e .bytes) r in
+    let w : twoAt l 1 ≡ 2 + length (e .bytes) = two-back (2 + length (e .bytes)) in
     let v : twoAt l 3 ≡ e .start = two-back (e .start) in
-    let z : twoAt l 1 - 2 ≡ length (e .old) = omega arith in
+    let z : twoAt l 1 - 2 ≡ length (e .bytes) = omega arith in
     let p : 5 ≤ length l = omega arith in
     let q : 2 ≤ twoAt l 1 = omega arith in
     let s : twoAt l 1 + 3 ≤ length l = omega arith in
-    let f : entryFits (kindOf n (e .tag)) (twoAt l 3) (twoAt l 1 - 2) ≡ true =
-    ap (λ (m : ℕ). entryFits (kindOf n (e .tag)) (twoAt l 3) m) z ∙ ap (λ (m : ℕ). entryFits (kindOf n (e .tag)) m (length (e .old))) v ∙ g .well-formed in
-    front-is n l p q s f ∙ omega arith
+    let f : entryFits (kindOf held (e .tag)) (twoAt l 3) (twoAt l 1 - 2) ≡ true =
+    ap (λ (m : ℕ). entryFits (kindOf held (e .tag)) (twoAt l 3) m) z ∙ ap (λ (m : ℕ). entryFits (kindOf held (e .tag)) m (length (e .bytes))) v ∙ g .well-formed in
+    front-is held l p q s f ∙ omega arith
 
 pub entry-encode : (e : Entry) (r : List ℕ) → entryAt (length (encode e)) (encode e ++ r) ≡ e
 unfolding entryAt encode
 entry-encode e r =
     let v = two-back (e .start) in
-    let q : take (length (encode e) - 5) (e .old ++ r) ≡ e .old = take-at (e .old) r (length (encode e) - 5) (omega arith) in
-    λ i. record { tag = e .tag; start = v i; old = q i }
+    let q : take (length (encode e) - 5) (e .bytes ++ r) ≡ e .bytes = take-at (e .bytes) r (length (encode e) - 5) (omega arith) in
+    λ i. record { tag = e .tag; start = v i; bytes = q i }
 
-pub read-back : (n : ℕ) (es : List Entry) → ReadBack n es
+pub read-back : (held : Held) (es : List Entry) → ReadBack held es
 unfolding AllGood encodes whole entriesIn
-read-back n [] g = (refl, refl)
-read-back n (e ∷ es) g =
-    let s : frontOf n (encode e ++ encodes es) ≡ length (encode e) = front-encode n e (encodes es) (g .0) in
+read-back held [] g = (refl, refl)
+read-back held (e ∷ es) g =
+    let s : frontOf held (encode e ++ encodes es) ≡ length (encode e) = front-encode held e (encodes es) (g .0) in
     let p : 0 < length (encode e) = rw (length-encode e) (omega arith) in
     let d : drop (length (encode e)) (encode e ++ encodes es) ≡ encodes es = drop-at (encode e) (encodes es) _ refl in
-    let ih = read-back n es (g .1) in (
-      whole-front n _ _ s p ∙ ap (whole n 0) d ∙ ih .0,
-      entries-front n _ _ s p ∙ ap (λ (x : Entry). x ∷ entriesIn n 0 (drop (length (encode e)) (encode e ++ encodes es))) (entry-encode e (encodes es))
-          ∙ ap (λ (r : List ℕ). e ∷ entriesIn n 0 r) d
+    let ih = read-back held es (g .1) in (
+      whole-front held _ _ s p ∙ ap (whole held 0) d ∙ ih .0,
+      entries-front held _ _ s p ∙ ap (λ (x : Entry). x ∷ entriesIn held 0 (drop (length (encode e)) (encode e ++ encodes es))) (entry-encode e (encodes es))
+          ∙ ap (λ (r : List ℕ). e ∷ entriesIn held 0 r) d
           ∙ ap (λ (r : List Entry). e ∷ r) (ih .1),
     )
 
@@ -80,58 +81,58 @@ five (a ∷ b ∷ c ∷ d ∷ []) h = absurd (omega arith)
 five (a ∷ b ∷ c ∷ d ∷ e ∷ l) h = refl
 
 -- the entry at the front of l
-module _ (n : ℕ) (l : List ℕ) (bs : Bytes l) (h : 0 < frontOf n l) where
-  follows : 2 + length (entryAt (frontOf n l) l .old) ≡ twoAt l 1
+module _ (held : Held) (l : List ℕ) (bs : Bytes l) (h : 0 < frontOf held l) where
+  follows : 2 + length (entryAt (frontOf held l) l .bytes) ≡ twoAt l 1
   unfolding entryAt
   follows =
-      let z = at-front n l h in
-      let a : 5 ≤ frontOf n l = front-least n l h in
-      let b : frontOf n l ≤ length l = front-le n l in
-      let d : length (take (frontOf n l - 5) (drop 5 l)) ≡ frontOf n l - 5 = length-take-le (frontOf n l - 5) (drop 5 l) (simp length-drop (omega arith)) in
+      let z = at-front held l h in
+      let a : 5 ≤ frontOf held l = front-least held l h in
+      let b : frontOf held l ≤ length l = front-le held l in
+      let d : length (take (frontOf held l - 5) (drop 5 l)) ≡ frontOf held l - 5 = length-take-le (frontOf held l - 5) (drop 5 l) (simp length-drop (omega arith)) in
       omega (arith, z .is)
 
-  front-good : Good n (entryAt (frontOf n l) l)
+  front-good : Good held (entryAt (frontOf held l) l)
   unfolding entryAt
   front-good =
-      let m : length (entryAt (frontOf n l) l .old) ≡ twoAt l 1 - 2 = omega (arith, follows) in
+      let m : length (entryAt (frontOf held l) l .bytes) ≡ twoAt l 1 - 2 = omega (arith, follows) in
       record {
         length-fits = rw follows (digits-lt {m = 256} {c = 256} (bs 1) (bs 2));
         start-fits = digits-lt {m = 256} {c = 256} (bs 3) (bs 4);
-        well-formed = ap (entryFits (kindOf n (getD l 0 0)) (twoAt l 3)) m ∙ at-front n l h .fit;
+        well-formed = ap (entryFits (kindOf held (getD l 0 0)) (twoAt l 3)) m ∙ at-front held l h .fit;
       }
 
-  front-bytes : encode (entryAt (frontOf n l) l) ≡ take (frontOf n l) l
+  front-bytes : encode (entryAt (frontOf held l) l) ≡ take (frontOf held l) l
   unfolding entryAt encode
   front-bytes =
-      let a : 5 ≤ frontOf n l = front-least n l h in
-      let b : frontOf n l ≤ length l = front-le n l in
-      let k : frontOf n l ≡ suc (suc (suc (suc (suc (frontOf n l - 5))))) = omega arith in
+      let a : 5 ≤ frontOf held l = front-least held l h in
+      let b : frontOf held l ≤ length l = front-le held l in
+      let k : frontOf held l ≡ suc (suc (suc (suc (suc (frontOf held l - 5))))) = omega arith in
       rw (follows, digits-div (getD l 1 0) (bs 2), digits-mod (getD l 1 0) (bs 2), digits-div (getD l 3 0) (bs 4), digits-mod (getD l 3 0) (bs 4))
-      (sym (ap (λ (m : ℕ). take m l) k ∙ ap (take (suc (suc (suc (suc (suc (frontOf n l - 5))))))) (five l (omega arith))))
+      (sym (ap (λ (m : ℕ). take m l) k ∙ ap (take (suc (suc (suc (suc (suc (frontOf held l - 5))))))) (five l (omega arith))))
 
-abbrev Encoded : ℕ → List ℕ → Type 0
-Encoded n l = AllGood n (entriesIn n 0 l) × (encodes (entriesIn n 0 l) ≡ l)
+abbrev Encoded : Held → List ℕ → Type 0
+Encoded held l = AllGood held (entriesIn held 0 l) × (encodes (entriesIn held 0 l) ≡ l)
 
-encoded-front : (n : ℕ) (l : List ℕ) → Bytes l → 0 < frontOf n l → Encoded n (drop (frontOf n l) l) → Encoded n l
+encoded-front : (held : Held) (l : List ℕ) → Bytes l → 0 < frontOf held l → Encoded held (drop (frontOf held l) l) → Encoded held l
 unfolding AllGood encodes
-encoded-front n l bs h ih =
-    let s : ℕ = frontOf n l in
-    rw (entries-front n s l refl h) (
-      (front-good n l bs h, ih .0),
-      ap (λ (r : List ℕ). encode (entryAt s l) ++ r) (ih .1) ∙ ap (λ (r : List ℕ). r ++ drop s l) (front-bytes n l bs h) ∙ take-append-drop s l,
+encoded-front held l bs h ih =
+    let s : ℕ = frontOf held l in
+    rw (entries-front held s l refl h) (
+      (front-good held l bs h, ih .0),
+      ap (λ (r : List ℕ). encode (entryAt s l) ++ r) (ih .1) ∙ ap (λ (r : List ℕ). r ++ drop s l) (front-bytes held l bs h) ∙ take-append-drop s l,
     )
 
 -- by induction on a bound of the length
-encoded-below : (n f : ℕ) (l : List ℕ) → length l ≤ f → Bytes l → whole n 0 l ≡ true → Encoded n l
+encoded-below : (held : Held) (f : ℕ) (l : List ℕ) → length l ≤ f → Bytes l → whole held 0 l ≡ true → Encoded held l
 unfolding AllGood encodes entriesIn
-encoded-below n zero [] k bs e = (tt, refl)
-encoded-below n (suc f) [] k bs e = (tt, refl)
-encoded-below n zero (x ∷ l) k bs e = absurd (not-suc-le-zero k)
-encoded-below n (suc f) (x ∷ l) k bs e =
-    let s : ℕ = frontOf n (x ∷ l) in
-    let h : 0 < s = whole-some n (x ∷ l) e (omega arith) in
-    encoded-front n (x ∷ l) bs h
-    (encoded-below n f (drop s (x ∷ l)) (simp length-drop (omega arith)) (bytes-drop s (x ∷ l) bs) (sym (whole-front n s (x ∷ l) refl h) ∙ e))
+encoded-below held zero [] k bs e = (tt, refl)
+encoded-below held (suc f) [] k bs e = (tt, refl)
+encoded-below held zero (x ∷ l) k bs e = absurd (not-suc-le-zero k)
+encoded-below held (suc f) (x ∷ l) k bs e =
+    let s : ℕ = frontOf held (x ∷ l) in
+    let h : 0 < s = whole-some held (x ∷ l) e (omega arith) in
+    encoded-front held (x ∷ l) bs h
+    (encoded-below held f (drop s (x ∷ l)) (simp length-drop (omega arith)) (bytes-drop s (x ∷ l) bs) (sym (whole-front held s (x ∷ l) refl h) ∙ e))
 
-pub encoding : (n : ℕ) (bytes : List ℕ) → Encoding n bytes
-encoding n l bs e = encoded-below n (length l) l (omega arith) bs e
+pub encoding : (held : Held) (bytes : List ℕ) → Encoding held bytes
+encoding held l bs e = encoded-below held (length l) l (omega arith) bs e

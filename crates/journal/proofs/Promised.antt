@@ -8,19 +8,20 @@ use lib.ListN.{length, length-append}
 use lib.Dec.{leb}
 use borrow.Author.Tests.{leb-true, leb-false}
 use Rattle.areas.specs.declared.kinds.Kind.{Kind}
+use Rattle.areas.specs.declared.kinds.Held.{Held}
 use Rattle.areas.specs.Kinds.{placeOf, runOf, put}
 use Rattle.areas.proofs.Promised.{run}
-use Rattle.journal.specs.Journal.{Entry, encode, encodes, kept, added, lastOf, othersOf, lastEntry, others, restored, entryFor}
+use Rattle.journal.specs.Journal.{Entry, encode, encodes, kept, added, lastOf, othersOf, lastEntry, others, puts, entryFor}
 use Rattle.journal.specs.Laws.{ReadBack, Encoding, Newest, Undone}
 use Rattle.journal.proofs.Codec as codec
 use Rattle.journal.proofs.Keeping.{kept-all, kept-fewer}
-use Rattle.journal.proofs.Fitting.{restored-own}
+use Rattle.journal.proofs.Fitting.{puts-own}
 
-pub read-back : (n : ℕ) (es : List Entry) → ReadBack n es
-read-back n es = codec.read-back n es
+pub read-back : (held : Held) (es : List Entry) → ReadBack held es
+read-back held es = codec.read-back held es
 
-pub encoding : (n : ℕ) (bytes : List ℕ) → Encoding n bytes
-encoding n bytes = codec.encoding n bytes
+pub encoding : (held : Held) (bytes : List ℕ) → Encoding held bytes
+encoding held bytes = codec.encoding held bytes
 
 -- entries behind others are no longer than all
 behind : (es′ es″ : List Entry) → length (encodes es″) ≤ length (encodes (es′ ++ es″))
@@ -87,8 +88,8 @@ undone size k start count new area es e h =
     let left : List Entry = kept (size - length (encode x)) es in
     record {
       area-back =
-          ap (λ (y : Entry). restored k y (put k start new area)) (last-added left x)
-          ∙ sym (restored-own k x (put k start new area) refl)
+          ap (λ (y : Entry). puts k y (put k start new area)) (last-added left x)
+          ∙ sym (puts-own k x (put k start new area) refl)
           ∙ run k start count new area e h .put-back;
       others-kept = others-added left x;
     }

@@ -5,6 +5,7 @@ use mathlib.Core.List.{List, [], _∷_, _++_}
 use lib.ListN.{length, take, drop, getD, replicate}
 use lib.Dec.{leb, eqb}
 use Rattle.areas.specs.declared.kinds.Kind.{Kind}
+use Rattle.areas.specs.declared.kinds.Held.{Held}
 use Rattle.areas.specs.Bytes.{twoOf, twoAt}
 use Rattle.areas.specs.Kinds.{kindOf, holds, put}
 
@@ -12,11 +13,11 @@ use Rattle.areas.specs.Kinds.{kindOf, holds, put}
 pub record Entry : Type 0 where
   pub tag : ℕ
   pub start : ℕ
-  pub old : List ℕ
+  pub bytes : List ℕ
 
 -- its bytes: "tag, a two-byte length of what follows, start number (2), the old bytes [..]; numbers high byte first"
 unfoldable pub encode : Entry → List ℕ
-encode e = e .tag ∷ (twoOf (2 + length (e .old)) ++ (twoOf (e .start) ++ e .old))
+encode e = e .tag ∷ (twoOf (2 + length (e .bytes)) ++ (twoOf (e .start) ++ e .bytes))
 
 unfoldable pub encodes : List Entry → List ℕ
 encodes [] = []
@@ -29,31 +30,31 @@ entryFits k start size =
     && (leb 1 (size / k .unit) && (leb (size / k .unit) (k .most) && holds k start (size / k .unit)))
 
 -- how long the entry at the front of bytes is, 0 where no whole well-formed one stands there
-unfoldable pub frontOf : ℕ → List ℕ → ℕ
-frontOf n bytes =
+unfoldable pub frontOf : Held → List ℕ → ℕ
+frontOf held bytes =
     cond
     (leb 5 (length bytes)
     && (leb 2 (twoAt bytes 1)
-    && (leb (twoAt bytes 1 + 3) (length bytes) && entryFits (kindOf n (getD bytes 0 0)) (twoAt bytes 3) (twoAt bytes 1 - 2))))
+    && (leb (twoAt bytes 1 + 3) (length bytes) && entryFits (kindOf held (getD bytes 0 0)) (twoAt bytes 3) (twoAt bytes 1 - 2))))
     (twoAt bytes 1 + 3)
     0
 
 -- "whole well-formed entries" (refusal 4), where so many bytes of the present entry are still to be passed
-unfoldable pub whole : ℕ → ℕ → List ℕ → Bool
-whole n zero [] = true
-whole n (suc left) [] = false
-whole n zero (b ∷ bytes) = cond (eqb (frontOf n (b ∷ bytes)) 0) false (whole n (pred (frontOf n (b ∷ bytes))) bytes)
-whole n (suc left) (b ∷ bytes) = whole n left bytes
+unfoldable pub whole : Held → ℕ → List ℕ → Bool
+whole held zero [] = true
+whole held (suc left) [] = false
+whole held zero (b ∷ bytes) = cond (eqb (frontOf held (b ∷ bytes)) 0) false (whole held (pred (frontOf held (b ∷ bytes))) bytes)
+whole held (suc left) (b ∷ bytes) = whole held left bytes
 
 -- the entry of so many bytes at the front
 unfoldable pub entryAt : ℕ → List ℕ → Entry
-entryAt size bytes = record { tag = getD bytes 0 0; start = twoAt bytes 3; old = take (size - 5) (drop 5 bytes) }
+entryAt size bytes = record { tag = getD bytes 0 0; start = twoAt bytes 3; bytes = take (size - 5) (drop 5 bytes) }
 
 -- the entries of a used part, oldest first, where so many bytes of the present entry are still to be passed
-unfoldable pub entriesIn : ℕ → ℕ → List ℕ → List Entry
-entriesIn n left [] = []
-entriesIn n zero (b ∷ bytes) = entryAt (frontOf n (b ∷ bytes)) (b ∷ bytes) ∷ entriesIn n (pred (frontOf n (b ∷ bytes))) bytes
-entriesIn n (suc left) (b ∷ bytes) = entriesIn n left bytes
+unfoldable pub entriesIn : Held → ℕ → List ℕ → List Entry
+entriesIn held left [] = []
+entriesIn held zero (b ∷ bytes) = entryAt (frontOf held (b ∷ bytes)) (b ∷ bytes) ∷ entriesIn held (pred (frontOf held (b ∷ bytes))) bytes
+entriesIn held (suc left) (b ∷ bytes) = entriesIn held left bytes
 
 -- "oldest entries are dropped, and no more than needed, until it fits" into so much room
 unfoldable pub kept : ℕ → List Entry → List Entry
@@ -78,16 +79,16 @@ othersOf e [] = []
 othersOf e (f ∷ es) = e ∷ othersOf f es
 
 unfoldable pub lastEntry : List Entry → Entry
-lastEntry [] = record { tag = 0; start = 0; old = [] }
+lastEntry [] = record { tag = 0; start = 0; bytes = [] }
 lastEntry (e ∷ es) = lastOf e es
 
 unfoldable pub others : List Entry → List Entry
 others [] = []
 others (e ∷ es) = othersOf e es
 
--- "A step back puts the last entry's bytes back": an area of a kind with an entry's old bytes back, where it is of that kind
-unfoldable pub restored : Kind → Entry → List ℕ → List ℕ
-restored k e area = cond (eqb (e .tag) (k .tag)) (put k (e .start) (e .old) area) area
+-- an entry's bytes put into an area of a kind, where the entry is of that kind
+unfoldable pub puts : Kind → Entry → List ℕ → List ℕ
+puts k e area = cond (eqb (e .tag) (k .tag)) (put k (e .start) (e .bytes) area) area
 
 abbrev pub entryFor : ℕ → ℕ → List ℕ → Entry
-entryFor t s o = record { tag = t; start = s; old = o }
+entryFor t s bs = record { tag = t; start = s; bytes = bs }

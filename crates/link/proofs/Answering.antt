@@ -1,145 +1,107 @@
 -- From the tests to the outcome.
-use Prim.Native.Nat.{ℕ, zero, suc, _+_, _-_, _*_, _/_, _%_, _≤_, _<_}
+use Prim.Native.Nat.{ℕ, zero, suc, _≤_, _<_}
 use mathlib.Core.Path.{_≡_, refl, sym, ap, _∙_}
-use mathlib.Core.Bool.{Bool, true, false, cond, not, _&&_}
-use mathlib.Core.List.{List, [], _∷_, _++_}
+use mathlib.Core.Bool.{Bool, true, false, cond}
+use mathlib.Core.List.{List, []}
 use native.Mathlib.Omega.{arith}
-use lib.Dec.{leb, ltb, eqb}
-use lib.ListN.{length, take, drop, getD}
-use borrow.Author.Tests.{leb-true, ltb-false, eqb-true, eq-eqb, ne-eqb, le-leb, lt-leb, not-false}
-use Rattle.digits.proofs.Inverse.{and-left, and-right}
-use Rattle.frames.specs.Frame.{command, CR, LF, shaped, sumPasses, stationPasses, contentIn, messageIn, errorOf}
-use Rattle.messages.specs.declared.Message.{Message}
-use Rattle.messages.specs.declared.Message.the-variants.{Test, Count, Points, Columns, Axes, Write, Clear, Change, Unknown}
+use lib.Dec.{eqb}
+use lib.ListN.{length}
+use borrow.Author.Tests.{ne-eqb, eqb-true, eqb-false}
+use Rattle.digits.proofs.Bools.{either}
+use Rattle.frames.specs.Frame.{contentIn}
+use Rattle.areas.specs.declared.kinds.Held.{Held}
+use Rattle.messages.specs.declared.table.Message.{Message}
 use Rattle.messages.specs.declared.Asked.{Asked}
-use Rattle.messages.specs.declared.Asked.the-variants.{UnknownMessage, NotDigits, WrongLength, WrongProgram, CountZero, NotHeld, WrongPattern}
-use Rattle.messages.specs.Layout.{messageOf, isUnknown}
-use Rattle.messages.specs.Asked.{judged, askedOf, orderOf, notDigits, wrongLength, wrongProgram, countZero, notHeld, wrongPattern}
-use Rattle.refusals.specs.Call.{Call, Outcome, heldIn}
-use Rattle.refusals.specs.Refusals.{pointsFit, journalFits, axesFit, refusalOf, silentOf, backRefusalOf}
-use Rattle.link.specs.Answer.{numberOf, unchanged, refused, done, answerOf, back, backOf}
-use Rattle.refusals.proofs.Rows.{three, five, seven, ownOf, areaOf, saidOf, silent-rows, refusal-rows}
-use Rattle.refusals.proofs.Tested.{Points as PointsFit, Journal, points-fit, journal-fits}
+use Rattle.messages.specs.declared.Asked.the-variants.{Refused, Order}
+use Rattle.messages.specs.Rows.{firstOf}
+use Rattle.messages.specs.Table.{messageOf}
+use Rattle.messages.specs.Asked.{askedRows, askedOf, judged, numberGiven}
+use Rattle.messages.proofs.Judged.{number-judged, refused-some}
+use Rattle.calls.specs.Calls.{Areas, Call, Outcome, lengthsOf, heldIn, steppedBack}
+use Rattle.refusals.specs.Refusals.{silent, silentOf, refusalOf, backRefusalOf}
+use Rattle.refusals.proofs.Rows.{numberOf, CallPassed, silent-is, refusal-is, call-passed, past-silent, silent-given}
+use Rattle.link.specs.Answer.{asked, textOf, areasAfter, unanswered, answerOf, backOf}
 
--- every test before a reply is passed
-pub record Passed (c : Call) : Type 0 where
-  pub r1 : ltb (length (c .reply)) 1024 ≡ false
-  pub r2 : not (pointsFit (c .points)) ≡ false
-  pub r3 : not (eqb (length (c .columns)) 700) ≡ false
-  pub r4 : not (journalFits (heldIn (c .points)) (c .journal) (c .used)) ≡ false
-  pub r5 : not (axesFit (c .eight) (c .records) (c .fitted)) ≡ false
-  pub r6 : not (shaped (c .frame)) ≡ false
-  pub r7 : not (sumPasses (c .frame)) ≡ false
-  pub r8 : not (stationPasses (c .station) (c .frame)) ≡ false
+pub silent-first : (c : Call) → silentOf c ≡ firstOf (silent c)
+unfolding silentOf
+silent-first c = refl
 
-abbrev Eight : Bool → Bool → Bool → Bool → Bool → Bool → Bool → Bool → Type 0
-Eight p q r s t u v w = (p ≡ false) × (q ≡ false) × (r ≡ false) × (s ≡ false) × (t ≡ false) × (u ≡ false) × (v ≡ false) × (w ≡ false)
+-- a refusal without a reply
+pub silent-answer : (c : Call) (k : ℕ) → k ≡ silentOf c → (k ≡ 0 → ⊥) → answerOf c ≡ unanswered k (c .areas)
+unfolding answerOf
+silent-answer c k e n = rw (← e, ne-eqb k 0 n)
 
-none-holds : (p q r s t u v w : Bool) → _≡_ {A = ℕ} (five p q r s t (three u v w 0)) 0 → Eight p q r s t u v w
-none-holds true q r s t u v w e = absurd (omega arith)
-none-holds false true r s t u v w e = absurd (omega arith)
-none-holds false false true s t u v w e = absurd (omega arith)
-none-holds false false false true t u v w e = absurd (omega arith)
-none-holds false false false false true u v w e = absurd (omega arith)
-none-holds false false false false false true v w e = absurd (omega arith)
-none-holds false false false false false false true w e = absurd (omega arith)
-none-holds false false false false false false false true e = absurd (omega arith)
-none-holds false false false false false false false false e = (refl, refl, refl, refl, refl, refl, refl, refl)
+-- what a heard frame asks is answered
+pub heard-answer : (c : Call) → silentOf c ≡ 0 → answerOf c ≡ record { number = numberGiven (asked c); text = textOf c (asked c); areas = areasAfter c (asked c) }
+unfolding answerOf
+heard-answer c e = rw e
 
-pub passed : (c : Call) → silentOf c ≡ 0 → Passed c
-passed c e =
+-- the number of what is asked is that of its rows
+pub asked-number : (c : Call)
+    → numberGiven (asked c) ≡ firstOf (askedRows (heldIn (lengthsOf (c .areas))) (c .sent .settings .fitted) (messageOf (c .sent .frame)) (contentIn (c .sent .frame)))
+unfolding askedOf
+asked-number c = number-judged (heldIn (lengthsOf (c .areas))) (c .sent .settings .fitted) (messageOf (c .sent .frame)) (contentIn (c .sent .frame))
+
+pub heard-number : (c : Call) → silentOf c ≡ 0 → refusalOf c ≡ numberGiven (asked c)
+heard-number c e =
+    let k = firstOf (askedRows (heldIn (lengthsOf (c .areas))) (c .sent .settings .fitted) (messageOf (c .sent .frame)) (contentIn (c .sent .frame))) in
+    refusal-is c
+    ∙ past-silent (length (c .sent .reply)) (c .sent .frame) (c .sent .axes) (c .sent .settings) (lengthsOf (c .areas)) (c .areas .journal) (c .areas .kept)
+    (call-passed c e)
+    k
+    ∙ sym (asked-number c)
+
+-- a refusal without a reply is the table's, and below 101
+pub silent-number : (c : Call) → (silentOf c ≡ 0 → ⊥) → (refusalOf c ≡ silentOf c) × (silentOf c < 101)
+silent-number c n =
+    let k = firstOf (askedRows (heldIn (lengthsOf (c .areas))) (c .sent .settings .fitted) (messageOf (c .sent .frame)) (contentIn (c .sent .frame))) in
     let h =
-    none-holds (ltb (length (c .reply)) 1024) (not (pointsFit (c .points))) (not (eqb (length (c .columns)) 700))
-    (not (journalFits (heldIn (c .points)) (c .journal) (c .used)))
-    (not (axesFit (c .eight) (c .records) (c .fitted)))
-    (not (shaped (c .frame)))
-    (not (sumPasses (c .frame)))
-    (not (stationPasses (c .station) (c .frame)))
-    (sym (silent-rows c) ∙ e) in
-    record { r1 = h .0; r2 = h .1; r3 = h .2; r4 = h .3; r5 = h .4; r6 = h .5; r7 = h .6; r8 = h .7 }
+    silent-given (length (c .sent .reply)) (c .sent .frame) (c .sent .axes) (c .sent .settings) (lengthsOf (c .areas)) (c .areas .journal) (c .areas .kept) k
+    (λ z. n (silent-is c ∙ z)) in
+    (refusal-is c ∙ h .0 ∙ sym (silent-is c), rw (silent-is c) (h .1))
 
--- a refusal without a reply is the call's, and is below 101
-one-holds : (p q r s t u v w : Bool) (k : ℕ) → (_≡_ {A = ℕ} (five p q r s t (three u v w 0)) 0 → ⊥)
-    → (five p q r s t (three u v w k) ≡ five p q r s t (three u v w 0)) × (five p q r s t (three u v w 0) < 101)
-one-holds true q r s t u v w k n = (refl, omega arith)
-one-holds false true r s t u v w k n = (refl, omega arith)
-one-holds false false true s t u v w k n = (refl, omega arith)
-one-holds false false false true t u v w k n = (refl, omega arith)
-one-holds false false false false true u v w k n = (refl, omega arith)
-one-holds false false false false false true v w k n = (refl, omega arith)
-one-holds false false false false false false true w k n = (refl, omega arith)
-one-holds false false false false false false false true k n = (refl, omega arith)
-one-holds false false false false false false false false k n = absurd (n refl)
+-- the number that comes back is the table's
+pub frame-number : (c : Call) → answerOf c .number ≡ refusalOf c
+frame-number c = go (eqb (silentOf c) 0) refl
+  where
+    go : (b : Bool) → eqb (silentOf c) 0 ≡ b → answerOf c .number ≡ refusalOf c
+    go true e = let z = eqb-true _ _ e in ap (λ (o : Outcome). o .number) (heard-answer c z) ∙ sym (heard-number c z)
+    go false e =
+        let z = eqb-false _ _ e in
+        ap (λ (o : Outcome). o .number) (silent-answer c (silentOf c) refl z) ∙ sym (silent-number c z .0)
 
-pub silent-answer : (c : Call) (k : ℕ) → k ≡ silentOf c → (k ≡ 0 → ⊥) → answerOf c ≡ unchanged c k []
-unfolding answerOf
-silent-answer c k e n =
-    let h =
-    one-holds (ltb (length (c .reply)) 1024) (not (pointsFit (c .points))) (not (eqb (length (c .columns)) 700))
-    (not (journalFits (heldIn (c .points)) (c .journal) (c .used)))
-    (not (axesFit (c .eight) (c .records) (c .fitted)))
-    (not (shaped (c .frame)))
-    (not (sumPasses (c .frame)))
-    (not (stationPasses (c .station) (c .frame)))
-    (saidOf c)
-    (λ z. n (e ∙ silent-rows c ∙ z)) in
-    let f : refusalOf c ≡ k = refusal-rows c ∙ h .0 ∙ sym (silent-rows c) ∙ sym e in
-    let l : k < 101 = rw (e, silent-rows c) (h .1) in
-    rw (f, ne-eqb k 0 n, lt-leb 101 k l)
+-- an accepted frame was heard, and orders something
+pub record Accepted (c : Call) : Type 0 where
+  pub heard : silentOf c ≡ 0
+  pub message : Message
+  pub start : ℕ
+  pub count : ℕ
+  pub order : asked c ≡ Order message start count
 
--- the error refusals are what was judged
-number-judged : (p q r s t u v : Bool) (o : Asked) → (p ≡ false → numberOf o ≡ 0)
-    → seven p q r s t u v ≡ numberOf (cond p UnknownMessage (cond q NotDigits (cond r WrongLength (cond s WrongProgram (cond t CountZero (cond u NotHeld (cond v WrongPattern o)))))))
-number-judged true q r s t u v o h = refl
-number-judged false true r s t u v o h = refl
-number-judged false false true s t u v o h = refl
-number-judged false false false true t u v o h = refl
-number-judged false false false false true u v o h = refl
-number-judged false false false false false true v o h = refl
-number-judged false false false false false false true o h = refl
-number-judged false false false false false false false o h = sym (h refl)
+pub accepted : (c : Call) → answerOf c .number ≡ 0 → Accepted c
+accepted c e = go (eqb (silentOf c) 0) refl
+  where
+    none : silentOf c ≡ 0 → numberGiven (asked c) ≡ 0
+    none z = sym (heard-number c z) ∙ sym (frame-number c) ∙ e
 
-order-number : (m : Message) (content : List ℕ) → isUnknown m ≡ false → numberOf (orderOf m content) ≡ 0
-order-number Test content e = refl
-order-number Count content e = refl
-order-number Points content e = refl
-order-number Columns content e = refl
-order-number Axes content e = refl
-order-number Write content e = refl
-order-number Clear content e = refl
-order-number Change content e = refl
-order-number Unknown content e = cc
+    low : (a : Asked) → asked c ≡ a → silentOf c ≡ 0 → numberGiven a ≡ 0 → (a ≡ Refused 0 → ⊥) → Accepted c
+    low (Refused zero) q z f k = absurd (k refl)
+    low (Refused (suc n)) q z f k = absurd (omega arith)
+    low (Order m start count) q z f k = record { heard = z; message = m; start = start; count = count; order = q }
 
-said-number : (c : Call) → saidOf c ≡ numberOf (askedOf (heldIn (c .points)) (c .fitted) (c .frame))
-unfolding askedOf judged
-said-number c =
-    let m = messageOf (c .frame) in
-    let s = contentIn (c .frame) in
-    number-judged (isUnknown m) (notDigits m s) (wrongLength m s) (wrongProgram m s) (countZero m s) (notHeld (heldIn (c .points)) m s) (wrongPattern (c .fitted) m s) (orderOf m s) (order-number m s)
-
-pub spoken : (c : Call) → Passed c → refusalOf c ≡ numberOf (askedOf (heldIn (c .points)) (c .fitted) (c .frame))
-spoken c p =
-    refusal-rows c
-    ∙ rw (p .r1, p .r2, p .r3, p .r4, p .r5, p .r6, p .r7, p .r8) (said-number c)
-
-pub refused-answer : (c : Call) (a : Asked) (k : ℕ) → Passed c → a ≡ askedOf (heldIn (c .points)) (c .fitted) (c .frame) → numberOf a ≡ k → 101 ≤ k
-    → answerOf c ≡ unchanged c k (errorOf (c .station) k)
-unfolding answerOf
-refused-answer c a k p e n h =
-    let f : refusalOf c ≡ k = spoken c p ∙ ap numberOf (sym e) ∙ n in
-    rw (f, ne-eqb k 0 (omega arith), le-leb 101 k h)
-
-pub accepted-answer : (c : Call) (a : Asked) → Passed c → a ≡ askedOf (heldIn (c .points)) (c .fitted) (c .frame) → numberOf a ≡ 0 → answerOf c ≡ done c a
-unfolding answerOf
-accepted-answer c a p e n =
-    let f : refusalOf c ≡ 0 = spoken c p ∙ ap numberOf (sym e) ∙ n in
-    rw (f, ← e)
+    go : (b : Bool) → eqb (silentOf c) 0 ≡ b → Accepted c
+    go true q = let z = eqb-true _ _ q in low (asked c) refl z (none z) (λ w. refused-some (heldIn (lengthsOf (c .areas))) (c .sent .settings .fitted) (c .sent .frame) w)
+    go false q = let z = eqb-false _ _ q in absurd (z (sym (silent-number c z .0) ∙ sym (frame-number c) ∙ e))
 
 -- the step back's outcome
-pub refused-back : (c : Call) (k : ℕ) → k ≡ backRefusalOf c → (k ≡ 0 → ⊥) → backOf c ≡ unchanged c k []
+pub refused-back : (a : Areas) (k : ℕ) → k ≡ backRefusalOf a → (k ≡ 0 → ⊥) → backOf a ≡ unanswered k a
 unfolding backOf
-refused-back c k e n = rw (← e, ne-eqb k 0 n)
+refused-back a k e n = rw (← e, ne-eqb k 0 n)
 
-pub accepted-back : (c : Call) → backRefusalOf c ≡ 0 → backOf c ≡ back c
+pub accepted-back : (a : Areas) → backRefusalOf a ≡ 0 → backOf a ≡ unanswered 0 (steppedBack (heldIn (lengthsOf a)) a)
 unfolding backOf
-accepted-back c e = rw e
+accepted-back a e = rw e
+
+-- what is asked, of what is held as it was worked out
+pub same-asked : {a : Asked} {h h′ : Held} (fitted : ℕ) (frame : List ℕ) → a ≡ askedOf h fitted frame → h ≡ h′ → askedOf h′ fitted frame ≡ a
+same-asked fitted frame e f = cc

@@ -1,153 +1,197 @@
--- What a handler's contract says, as the outcome.
-use Prim.Native.Nat.{ℕ, _+_, _-_, _*_, _/_, _≤_, _<_}
-use mathlib.Core.Path.{_≡_, refl, sym, ap, ap₂, _∙_}
-use mathlib.Core.Bool.{true}
-use mathlib.Core.List.{List, [], _∷_, _++_}
+-- What a heard order assures: of the areas, of the content, and of a run that is to be written.
+use Prim.Native.Nat.{ℕ, zero, suc, _+_, _-_, _*_, _/_, _≤_, _<_, _^_}
+use mathlib.Core.Path.{_≡_, refl, sym, ap, _∙_, subst}
+use mathlib.Core.Bool.{Bool, true, false, cond, not, _&&_}
+use mathlib.Core.List.{List}
 use native.Mathlib.Omega.{arith}
-use lib.ListN.{length, take, drop, length-drop}
-use lib.Seq.{take-add, take-take, drop-drop, length-take-le}
-use borrow.Author.Tests.{ltb-false, eqb-true, not-false}
-use Rattle.digits.specs.Laid.{laid}
-use Rattle.frames.specs.Frame.{messageIn, contentIn, replyOf, errorOf, normal, shaped}
-use Rattle.frames.proofs.Closing.{length-reply}
-use Rattle.areas.specs.Kinds.{pointsOf, columnsOf, holds}
-use Rattle.messages.specs.declared.Asked.{Asked}
-use Rattle.messages.specs.Layout.{messageOf}
-use Rattle.messages.specs.Asked.{askedOf, judged}
-use Rattle.messages.proofs.Readiness.{Ready, ready}
-use Rattle.queries.specs.Laws.{Replied}
-use Rattle.writes.specs.Writes.{Written}
-use Rattle.writes.proofs.Held.{within}
-use Rattle.writes.specs.Writes as writes
-use Rattle.link.specs.declared.Answered.{Answered}
-use Rattle.link.specs.declared.Kept.{Kept}
-use Rattle.refusals.specs.Call.{Call, Outcome, heldIn}
+use native.Mathlib.Nat.{pow-le-pow-right}
+use lib.Dec.{eqb, leb}
+use lib.ListN.{length, take, drop, length-append, length-drop, length-replicate}
+use lib.Seq.{length-take-le}
+use borrow.Author.Tests.{ltb-false, eqb-true, eqb-false, leb-true, le-leb, not-false}
+use Rattle.digits.specs.Digits.{allDigits, numberOf}
+use Rattle.digits.proofs.Inverse.{inverse, and-left, and-right}
+use Rattle.digits.proofs.Bools.{was-not}
+use Rattle.frames.specs.Frame.{contentIn}
+use Rattle.areas.specs.declared.kinds.Kind.{Kind}
+use Rattle.areas.specs.declared.kinds.Held.{Held}
+use Rattle.areas.specs.Kinds.{Sound, pointsTag, columnsTag, pointsOf, columnsOf, kindOf, holds, sizeOf}
+use Rattle.areas.specs.Pairs.{bytesIn}
+use Rattle.areas.proofs.Known.{kind-points, kind-columns, within}
+use Rattle.areas.proofs.Paired.{length-bytesIn}
+use Rattle.points.specs.Point.{lengthOf, pointOf, slotOf, slotsOf}
+use Rattle.points.proofs.Slotted.{length-pointSlot}
+use Rattle.messages.specs.declared.table.Follows.the-variants.{Points as PointsFollow, RunBytes}
+use Rattle.messages.specs.declared.table.Action.{Action}
+use Rattle.messages.specs.declared.table.Action.the-variants.{SayBack, CountPoints, ListPoints, ReadRun, AxisStatus, WritePoints, ClearRun, ChangeRun}
+use Rattle.messages.specs.declared.table.Message.{Message}
+use Rattle.messages.specs.declared.Asked.the-variants.{Order}
+use Rattle.messages.specs.Table.{messageOf, fieldsOf, startIn, countIn, restIn, followsRight, anyBytes, Narrow}
+use Rattle.messages.specs.Asked.{askedOf}
+use Rattle.messages.proofs.Judged.{Right, Told, told, written}
+use Rattle.messages.proofs.Shapes.{Shape, Shaped, shaped}
+use Rattle.calls.specs.Calls.{Call, lengthsOf, heldIn}
 use Rattle.refusals.specs.Refusals.{silentOf}
-use Rattle.link.specs.Answer.{unchanged, said, wrotePoints, wroteColumns, answerOf}
-use Rattle.link.specs.Contract.{Answers}
-use Rattle.refusals.proofs.Tested.{Points, Journal, points-fit, journal-fits, shaped-long}
-use Rattle.link.proofs.Answering.{Passed, passed}
+use Rattle.refusals.proofs.Rows.{CallPassed, call-passed}
+use Rattle.refusals.proofs.Tested.{Points, Journal, points-fit, journal-fits, shaped-long, sound}
+use Rattle.link.specs.Answer.{held, asked, rest, writes, newBytes}
+
+-- so many slots are forty bytes each
+pub slots-long : (count : ℕ) (digits : List ℕ) → length (slotsOf count digits) ≡ count * 40
+unfolding slotsOf
+slots-long zero digits = refl
+slots-long (suc count) digits =
+    let n = slots-long count (drop (lengthOf digits) digits) in
+    length-append (slotOf (pointOf digits)) (slotsOf count (drop (lengthOf digits) digits)) ∙ omega (arith, length-pointSlot digits)
 
 -- what the tests before a reply assure
 pub record Fine (c : Call) : Type 0 where
-  pub reply-long : 1024 ≤ length (c .reply)
-  pub points : Points (c .points)
-  pub columns : length (c .columns) ≡ 700
-  pub journal : Journal (heldIn (c .points)) (c .journal) (c .used)
-  pub frame-long : 10 ≤ length (c .frame)
+  pub reply-long : 1024 ≤ length (c .sent .reply)
+  pub points : Points (length (c .areas .points))
+  pub columns : length (c .areas .columns) ≡ 700
+  pub journal : Journal (held c) (c .areas .journal) (c .areas .kept .used)
+  pub frame-long : 10 ≤ length (c .sent .frame)
+  pub sound-held : Sound (held c)
 
-pub fine : (c : Call) → Passed c → Fine c
-fine c p =
+pub fine : (c : Call) → silentOf c ≡ 0 → Fine c
+fine c e =
+    let p = call-passed c e in
     record {
-      reply-long = ltb-false _ _ (p .r1);
-      points = points-fit (c .points) (not-false _ (p .r2));
-      columns = eqb-true _ _ (not-false _ (p .r3));
-      journal = journal-fits (heldIn (c .points)) (c .journal) (c .used) (not-false _ (p .r4));
-      frame-long = shaped-long (c .frame) (not-false _ (p .r6));
+      reply-long = ltb-false _ _ (p .reply-long);
+      points = points-fit (length (c .areas .points)) (p .areas .points);
+      columns = eqb-true _ _ (p .areas .columns);
+      journal = journal-fits (held c) (c .areas .journal) (c .areas .kept .used) (p .areas .journal-fits);
+      frame-long = shaped-long (c .sent .frame) (p .shape);
+      sound-held = sound (length (c .areas .points)) (p .areas .points);
     }
-
--- what is needed to carry an order out
-pub told : (n fitted : ℕ) (frame : List ℕ) (a : Asked) → a ≡ askedOf n fitted frame → Ready n (contentIn frame) a
-unfolding askedOf
-told n fitted frame a e = rw e (ready n fitted (messageOf frame) (contentIn frame))
 
 -- a content is ten bytes shorter than its frame
 pub content-long : (frame : List ℕ) → 10 ≤ length frame → length (contentIn frame) ≡ length frame - 10
 content-long frame h = length-take-le (length frame - 10) (drop 6 frame) (simp length-drop (omega arith))
 
--- the ID and so much of the content, as they stand in the frame
-pub same-text : (frame : List ℕ) (k : ℕ) → 10 ≤ length frame → k ≤ length frame - 10 → take (3 + k) (drop 3 frame) ≡ messageIn frame ++ take k (contentIn frame)
-same-text frame k h l =
-    take-add 3 k (drop 3 frame)
-    ∙ ap (λ (r : List ℕ). take 3 (drop 3 frame) ++ r) (ap (take k) (drop-drop 3 3 frame) ∙ sym (take-take k (length frame - 10) (drop 6 frame) l))
+-- what the judgement assures of a message's content
+pub record Judged (h : Held) (content : List ℕ) (m : Message) (start count : ℕ) : Type 0 where
+  pub narrow : Narrow m
+  pub shape : Shape (m .does) m
+  pub start-is : start ≡ startIn m content
+  pub count-is : count ≡ countIn m content
+  pub fields : fieldsOf m ≤ length content
+  pub follows : followsRight (m .follows) (kindOf h (m .tag) .unit) count (restIn m content) ≡ true
+  pub digits : anyBytes (m .follows) ≡ false → allDigits content ≡ true
+  pub some : 1 ≤ m .count → 1 ≤ count
+  pub held-all : 1 ≤ m .start → holds (kindOf h (m .tag)) start count ≡ true
+  pub few : m .count ≡ 2 → count ≤ 255
 
--- an error reply, given
-pub answered-refused : (c : Call) (k : ℕ) (r : Answered) (reply′ : List ℕ) (kept : Kept) → c .used ≡ kept .used → answerOf c ≡ unchanged c k (errorOf (c .station) k)
-    → (r .number ≡ k) × (r .length ≡ 10) × (r .kept ≡ kept) × (reply′ ≡ laid (c .reply) 0 (errorOf (c .station) k))
-    → Answers (answerOf c) r (c .points) (c .columns) (c .journal) (c .reply) reply′
-answered-refused c k r reply′ kept u e f =
-    rw e
-    (record {
-      number-is = f .0;
-      length-is = f .1 ∙ sym (length-reply _ _ _);
-      used-is = ap (λ (x : Kept). x .used) (f .2) ∙ sym u;
-      points-are = refl;
-      columns-are = refl;
-      journal-is = refl;
-      reply-is = f .3;
-    })
+one : (k : ℕ) → (k ≡ 0 → ⊥) → 1 ≤ k
+one zero n = absurd (n refl)
+one (suc k) n = omega arith
 
--- a query's reply, given
-pub answered-said : (c : Call) (rest : List ℕ) (r : Answered) (long : ℕ) (reply′ : List ℕ) → answerOf c ≡ said c rest
-    → (r .number ≡ 0) × (r .length ≡ long) × (r .kept .used ≡ c .used) → Replied (c .reply) reply′ long (c .station) rest
-    → Answers (answerOf c) r (c .points) (c .columns) (c .journal) (c .reply) reply′
-answered-said c rest r long reply′ e f p =
-    rw e
-    (record {
-      number-is = f .0;
-      length-is = f .1 ∙ p .length-is;
-      used-is = f .2;
-      points-are = refl;
-      columns-are = refl;
-      journal-is = refl;
-      reply-is = p .bytes;
-    })
+-- a joined test that failed, where its first part holds
+second : (a b : Bool) → a ≡ true → a && b ≡ false → b ≡ false
+second a b e f = rw e at f
 
--- a write's, with what it wrote
-module _ (c : Call) (start count : ℕ) (bytes rest : List ℕ) (r : Answered) (long left : ℕ) (area′ journal′ reply′ : List ℕ)
-    (f : (r .number ≡ 0) × (r .length ≡ long) × (r .kept .used ≡ left)) (p : Replied (c .reply) reply′ long (c .station) rest) where
-  pub answered-points : answerOf c ≡ wrotePoints c start count bytes rest
-      → Written (heldIn (c .points)) (pointsOf (heldIn (c .points))) start count bytes (c .points) area′ (c .journal) journal′ (c .used) left
-      → Answers (answerOf c) r area′ (c .columns) journal′ (c .reply) reply′
-  answered-points e w =
-      rw e
-      (record {
-        number-is = f .0;
-        length-is = f .1 ∙ p .length-is;
-        used-is = f .2 ∙ w .journalled .used;
-        points-are = w .put-there;
-        columns-are = refl;
-        journal-is = w .journalled .bytes;
-        reply-is = p .bytes;
-      })
-
-  pub answered-columns : answerOf c ≡ wroteColumns c start count bytes rest
-      → Written (heldIn (c .points)) columnsOf start count bytes (c .columns) area′ (c .journal) journal′ (c .used) left
-      → Answers (answerOf c) r (c .points) area′ journal′ (c .reply) reply′
-  answered-columns e w =
-      rw e
-      (record {
-        number-is = f .0;
-        length-is = f .1 ∙ p .length-is;
-        used-is = f .2 ∙ w .journalled .used;
-        points-are = refl;
-        columns-are = w .put-there;
-        journal-is = w .journalled .bytes;
-        reply-is = p .bytes;
-      })
-
--- a board that can be written
-pub ready-points : (c : Call) (start count : ℕ) → Fine c → 1 ≤ count → holds (pointsOf (heldIn (c .points))) start count ≡ true
-    → writes.Ready (heldIn (c .points)) (pointsOf (heldIn (c .points))) start count (c .points) (c .journal) (c .used)
-ready-points c start count f some h =
-    let w = within (pointsOf (heldIn (c .points))) start count h in
+pub judged-so : (h : Held) (fitted : ℕ) (frame : List ℕ) (m : Message) (start count : ℕ) → askedOf h fitted frame ≡ Order m start count → Judged h (contentIn frame) m start count
+unfolding askedOf
+judged-so h fitted frame m start count e =
+    let s = contentIn frame in
+    let t = told h fitted (messageOf frame) s m start count e in
+    let r = t .rows in
+    let x = shaped frame m (t .message) in
+    let l = was-not (r .long) in
+    let room : fieldsOf m ≤ length s = leb-true _ _ (and-left (leb (fieldsOf m) (length s)) (followsRight (m .follows) (kindOf h (m .tag) .unit) (countIn m s) (restIn m s)) l) in
+    let f = and-right (leb (fieldsOf m) (length s)) (followsRight (m .follows) (kindOf h (m .tag) .unit) (countIn m s) (restIn m s)) l in
     record {
-      some = some;
-      held = h;
-      named = omega (arith, w .0, w .1);
-      area-long = omega (arith, f .points .whole-slots);
-      used-within = f .journal .within;
-      entries-whole = f .journal .entries;
+      narrow = x .narrow;
+      shape = x .shape;
+      start-is = t .start-is;
+      count-is = t .count-is;
+      fields = room;
+      follows = subst (λ (k : ℕ). followsRight (m .follows) (kindOf h (m .tag) .unit) k (restIn m s) ≡ true) (sym (t .count-is)) f;
+      digits = λ a. written m s a (r .digits);
+      some = λ a. one count (λ z. eqb-false _ _ (second (leb 1 (m .count)) (eqb (countIn m s) 0) (le-leb _ _ a) (r .some)) (sym (t .count-is) ∙ z));
+      held-all = λ a.
+          let q = was-not (second (leb 1 (m .start)) (not (holds (kindOf h (m .tag)) (startIn m s) (countIn m s))) (le-leb _ _ a) (r .held-all)) in
+          subst (λ (x : ℕ). holds (kindOf h (m .tag)) x count ≡ true) (sym (t .start-is)) (subst (λ (k : ℕ). holds (kindOf h (m .tag)) (startIn m s) k ≡ true) (sym (t .count-is)) q);
+      few = λ a. few-digits m s a room (t .count-is);
+    }
+  where
+    few-digits : (m : Message) (s : List ℕ) {k : ℕ} → m .count ≡ 2 → fieldsOf m ≤ length s → k ≡ countIn m s → k ≤ 255
+    few-digits m s a r e =
+        let w = take (m .count) (drop (m .program + m .start) s) in
+        let l : length w ≡ 2 = length-take-le (m .count) (drop (m .program + m .start) s) (simp length-drop (omega arith)) ∙ a in
+        let b : numberOf w < 16 ^ 2 = inverse 2 .bound w l in
+        omega (arith, e)
+
+-- what a message's kind holds, in one look
+pub record Named (h : Held) (tag start count : ℕ) : Type 0 where
+  pub some : 1 ≤ count
+  pub held-all : holds (kindOf h tag) start count ≡ true
+  pub named : count ≤ kindOf h tag .most
+  pub few-bytes : 5 + count * kindOf h tag .unit ≤ 40 * h .points + 300
+
+named-points : (h : Held) (start count : ℕ) → 1 ≤ count → holds (kindOf h pointsTag) start count ≡ true → Named h pointsTag start count
+named-points h start count o e =
+    let k = kind-points h in
+    let w = within (pointsOf h) start count (rw k at e) in
+    record {
+      some = o;
+      held-all = e;
+      named = rw k (omega (arith, w .0, w .1));
+      few-bytes = rw k (omega (arith, w .0, w .1));
     }
 
-pub ready-columns : (c : Call) (start count : ℕ) → Fine c → 1 ≤ count → count ≤ 255 → holds columnsOf start count ≡ true
-    → writes.Ready (heldIn (c .points)) columnsOf start count (c .columns) (c .journal) (c .used)
-ready-columns c start count f some most h =
+named-columns : (h : Held) (start count : ℕ) → 1 ≤ count → count ≤ 255 → holds (kindOf h columnsTag) start count ≡ true → Named h columnsTag start count
+named-columns h start count o f e =
+    let k = kind-columns h in
     record {
-      some = some;
-      held = h;
-      named = most;
-      area-long = omega (arith, f .columns);
-      used-within = f .journal .within;
-      entries-whole = f .journal .entries;
+      some = o;
+      held-all = e;
+      named = rw k (omega arith);
+      few-bytes = rw k (omega arith);
     }
+
+-- a write's run, whatever the message: named, and as many bytes as it has
+pub record Writable (h : Held) (content : List ℕ) (m : Message) (start count : ℕ) : Type 0 where
+  pub run : Named h (m .tag) start count
+  pub long : length (newBytes (m .does) (kindOf h (m .tag) .unit) count (restIn m content)) ≡ count * kindOf h (m .tag) .unit
+
+not-so : {A : Type 0} → false ≡ true → A
+not-so e = absurd (let z : _≡_ {A = ℕ} 0 1 = ap (λ (b : Bool). cond b 1 0) e in omega arith)
+
+pub writable : (h : Held) (content : List ℕ) (m : Message) (start count : ℕ) → Judged h content m start count → writes (m .does) ≡ true → Writable h content m start count
+writable h content m start count j w = go (m .does) refl (j .shape)
+  where
+    u : ℕ
+    u = kindOf h (m .tag) .unit
+
+    points : m .tag ≡ pointsTag → 1 ≤ m .start → 1 ≤ m .count → Named h (m .tag) start count
+    points t s k = subst (λ (x : ℕ). Named h x start count) (sym t) (named-points h start count (j .some k) (subst (λ (x : ℕ). holds (kindOf h x) start count ≡ true) t (j .held-all s)))
+
+    go : (a : Action) → m .does ≡ a → Shape a m → Writable h content m start count
+    go SayBack e x = not-so (ap writes (sym e) ∙ w)
+    go CountPoints e x = not-so (ap writes (sym e) ∙ w)
+    go ListPoints e x = not-so (ap writes (sym e) ∙ w)
+    go ReadRun e x = not-so (ap writes (sym e) ∙ w)
+    go AxisStatus e x = not-so (ap writes (sym e) ∙ w)
+    go WritePoints e x =
+        record {
+          run = points (x .0 .0) (x .0 .1) (x .0 .2);
+          long =
+              ap (λ (b : Action). length (newBytes b (kindOf h (m .tag) .unit) count (restIn m content))) e ∙ slots-long count (restIn m content)
+              ∙ ap (λ (k : Kind). count * k .unit) (sym (kind-points h) ∙ ap (kindOf h) (sym (x .0 .0)));
+        }
+    go ClearRun e x =
+        record {
+          run = points (x .0) (x .1) (x .2);
+          long =
+              ap (λ (b : Action). length (newBytes b (kindOf h (m .tag) .unit) count (restIn m content))) e
+              ∙ length-replicate (count * kindOf h (m .tag) .unit) 0;
+        }
+    go ChangeRun e x =
+        let f : followsRight RunBytes (kindOf h (m .tag) .unit) count (restIn m content) ≡ true = rw (x .2) at (j .follows) in
+        record {
+          run = subst (λ (t : ℕ). Named h t start count) (sym (x .0 .0)) (named-columns h start count (j .some (x .0 .2)) (j .few (x .1)) (subst (λ (t : ℕ). holds (kindOf h t) start count ≡ true) (x .0 .0) (j .held-all (x .0 .1))));
+          long =
+              ap (λ (b : Action). length (newBytes b (kindOf h (m .tag) .unit) count (restIn m content))) e
+              ∙ length-bytesIn (count * kindOf h (m .tag) .unit) (restIn m content) (eqb-true _ _ f);
+        }

@@ -1,4 +1,6 @@
 pub mod Answering
 pub mod Carrying
-pub mod Ordered
+pub mod Outcomes
+pub mod Handling
+pub mod Backing
 pub mod Lent

@@ -4,24 +4,29 @@ use mathlib.Core.Path.{_≡_}
 use mathlib.Core.List.{List}
 use lib.ListN.{length}
 use Rattle.digits.specs.Laid.{laid}
+use Rattle.calls.specs.Calls.{Areas, Call}
 use Rattle.link.specs.declared.Answered.{Answered}
 use Rattle.link.specs.declared.Back.{Back}
-use Rattle.refusals.specs.Call.{Outcome}
+use Rattle.messages.specs.declared.table.Message.{Message}
+use Rattle.messages.specs.declared.Asked.the-variants.{Order}
+use Rattle.refusals.specs.Refusals.{silentOf}
+use Rattle.link.specs.Answer.{asked, answerOf, backOf}
+
+-- a call whose frame is heard, no refusal holding, and orders this
+pub record Heard (c : Call) (m : Message) (start count : ℕ) : Type 0 where
+  pub silent-0 : silentOf c ≡ 0
+  pub order : asked c ≡ Order m start count
 
 -- what an answer gives and leaves is the outcome; the reply is laid over the front of the reply area, and what is beyond it stays
-pub record Answers (o : Outcome) (r : Answered) (points columns journal reply reply′ : List ℕ) : Type 0 where
-  pub number-is : r .number ≡ o .number
-  pub length-is : r .length ≡ length (o .text)
-  pub used-is : r .kept .used ≡ o .used
-  pub points-are : points ≡ o .points
-  pub columns-are : columns ≡ o .columns
-  pub journal-is : journal ≡ o .journal
-  pub reply-is : reply′ ≡ laid reply 0 (o .text)
+pub record Answers (c : Call) (r : Answered) (areas′ : Areas) (reply′ : List ℕ) : Type 0 where
+  pub number-is : r .number ≡ answerOf c .number
+  pub length-is : r .length ≡ length (answerOf c .text)
+  pub kept-is : r .kept ≡ answerOf c .areas .kept
+  pub areas-are : areas′ ≡ answerOf c .areas
+  pub reply-is : reply′ ≡ laid (c .sent .reply) 0 (answerOf c .text)
 
 -- what a step back gives and leaves
-pub record StepsBack (o : Outcome) (r : Back) (points columns journal : List ℕ) : Type 0 where
-  pub number-is : r .number ≡ o .number
-  pub used-is : r .kept .used ≡ o .used
-  pub points-are : points ≡ o .points
-  pub columns-are : columns ≡ o .columns
-  pub journal-is : journal ≡ o .journal
+pub record StepsBack (a : Areas) (r : Back) (areas′ : Areas) : Type 0 where
+  pub number-is : r .number ≡ backOf a .number
+  pub kept-is : r .kept ≡ backOf a .areas .kept
+  pub areas-are : areas′ ≡ backOf a .areas

@@ -1,24 +1,24 @@
 -- What is promised of a lent run of axis records beside the contract. The proofs are in proofs/Lent.antt.
-use Prim.Native.Nat.{ℕ}
+use Prim.Native.Nat.{ℕ, _≤_}
 use mathlib.Core.Path.{_≡_}
-use mathlib.Core.Bool.{true}
-use mathlib.Core.List.{List, [], _∷_}
+use mathlib.Core.List.{List}
 use lib.ListN.{length}
-use Rattle.queries.specs.declared.AxisRecord.{AxisRecord}
-use Rattle.refusals.specs.declared.Settings.{Settings}
-use Rattle.refusals.specs.Refusals.{table, firstOf, only, refusalOf}
-use Rattle.refusals.specs.Call.{callOf}
-use Rattle.lent.specs.Run.{lentAxes}
+use Rattle.messages.specs.Rows.{firstOf}
+use Rattle.axes.specs.declared.AxisRecord.{AxisRecord}
+use Rattle.axes.specs.Records.{eightAxes}
+use Rattle.axes.specs.Run.{lentAxes}
+use Rattle.calls.specs.declared.Settings.{Settings}
+use Rattle.calls.specs.Calls.{Areas, lengthsOf, callOf}
+use Rattle.refusals.specs.Refusals.{areaRows, refusalOf}
 
 -- "First an array of eight by value; then a thin function reads the lent slice": eight records make the same call either way
 abbrev pub SameEight : Type 0
 SameEight =
-    (frame points columns journal : List ℕ) (used : ℕ) (records : List AxisRecord) (settings : Settings) (reply : List ℕ) → length records ≡ 8
-    → callOf frame points columns journal used (lentAxes records) settings reply ≡ callOf frame points columns journal used (record { eight = true; records = records }) settings reply
+    (frame : List ℕ) (records : List AxisRecord) (settings : Settings) (reply : List ℕ) (a : Areas) → length records ≡ 8
+    → callOf frame (lentAxes records) settings reply a ≡ callOf frame (eightAxes records) settings reply a
 
 -- refusal 5, "not eight axis records", wherever none of 1 to 4 holds
 abbrev pub OtherCount : Type 0
 OtherCount =
-    (frame points columns journal : List ℕ) (used : ℕ) (records : List AxisRecord) (settings : Settings) (reply : List ℕ) → (length records ≡ 8 → ⊥)
-    → firstOf (only (1 ∷ 2 ∷ 3 ∷ 4 ∷ []) (table (callOf frame points columns journal used (lentAxes records) settings reply))) ≡ 0
-    → refusalOf (callOf frame points columns journal used (lentAxes records) settings reply) ≡ 5
+    (frame : List ℕ) (records : List AxisRecord) (settings : Settings) (reply : List ℕ) (a : Areas) → (length records ≡ 8 → ⊥)
+    → 1024 ≤ length reply → firstOf (areaRows (lengthsOf a) (a .journal) (a .kept)) ≡ 0 → refusalOf (callOf frame (lentAxes records) settings reply a) ≡ 5

@@ -1,39 +1,43 @@
 // The link: every frame answered, and the step back (document 01 whole).
+use areas::kinds::Held;
+use areas::kinds::Kind;
+use axes::Axes;
+use axes::AxisRecord;
+use axes::axes_of;
+use calls::Kept;
+use calls::Lengths;
+use calls::Settings;
 use frames::replies::error_reply;
-use lent::Axes;
-use lent::axes_of;
+use journal::find_last;
+use journal::remove;
+use journal::restore;
 use messages::Asked;
 use messages::content;
 use messages::judge;
-use points::point::Point;
-use queries::AxisRecord;
+use messages::table::Action;
+use messages::table::Message;
 use queries::reply_axes;
-use queries::reply_columns;
 use queries::reply_count;
+use queries::reply_head;
 use queries::reply_list;
+use queries::reply_run;
 use queries::reply_same;
-use refusals::Settings;
 use refusals::back_refusal;
 use refusals::silent;
-use writes::change_columns;
-use writes::clear_points;
+use writes::change;
+use writes::clear;
 use writes::write_points;
 ghost use mathlib.Core.Path.{_≡_};
-ghost use Prim.Native.Nat.{_+_, _*_, _/_, _≤_, _<_};
+ghost use Prim.Native.Nat.{_+_, _≤_};
 ghost use lib.ListN.{length};
 ghost use Rattle.digits.specs.Laid.{laid};
 ghost use Rattle.frames.specs.Frame.{errorOf};
-ghost use Rattle.messages.specs.Asked.{askedOf};
-ghost use Rattle.lent.specs.Run.{lentAxes};
-ghost use Rattle.refusals.specs.Call.{heldIn, callOf, backCall};
-ghost use Rattle.refusals.specs.Refusals.{silentOf};
-ghost use Rattle.link.specs.Answer.{answerOf, backOf};
-ghost use Rattle.link.specs.Contract.{Answers, StepsBack};
-
-// What is handed on from call to call.
-pub struct Kept {
-    pub used: usize,
-}
+ghost use Rattle.areas.specs.Kinds.{Sound, pointsOf, columnsOf, sizeOf};
+ghost use Rattle.journal.specs.Journal.{puts, entryFor};
+ghost use Rattle.journal.specs.Laws.{Good};
+ghost use Rattle.axes.specs.Run.{lentAxes};
+ghost use Rattle.calls.specs.Calls.{areasOf, callOf};
+ghost use Rattle.link.specs.Contract.{Heard, Answers, StepsBack};
 
 // The answer to a frame: its number, the reply's length, what is handed on.
 pub struct Answered {
@@ -48,10 +52,21 @@ pub struct Back {
     pub kept: Kept,
 }
 
+fn accept(long: usize, used: usize) -> Answered
+    ensures { λ r. ⌜ (r .number ≡ 0) × (r .length ≡ long) × (r .kept .used ≡ used) ⌝ }
+{
+    Answered {
+        number: 0,
+        length: long,
+        kept: Kept { used },
+    }
+}
+
 // The ten bytes of an error reply.
 fn refuse(reply: &mut [u8], station: u8, number: u16, kept: Kept) -> Answered
     requires { ⌜ 10 ≤ length (now reply) ⌝ }
-    ensures { λ r. ⌜ (r .number ≡ number) × (r .length ≡ 10) × (r .kept ≡ kept) × (now (reply .exit) ≡ laid (now (reply .entry)) 0 (errorOf station number)) ⌝ }
+    ensures { λ r. ⌜ (r .number ≡ number) × (r .length ≡ 10) × (r .kept ≡ kept) ⌝ }
+    ensures { λ _. ⌜ now (reply .exit) ≡ laid (now (reply .entry)) 0 (errorOf station number) ⌝ }
 {
     let length = error_reply(reply, station, number);
     Answered {
@@ -61,9 +76,11 @@ fn refuse(reply: &mut [u8], station: u8, number: u16, kept: Kept) -> Answered
     }
 }
 
-// One handler for each order, and the refusals 101 to 107, once no refusal without a reply holds.
+// What a message orders, once no refusal holds: a query's reply, or a write and its reply.
 fn carry_out(
-    asked: Asked,
+    m: Message,
+    start: usize,
+    count: usize,
     frame: &[u8],
     points: &mut [u8],
     columns: &mut [u8],
@@ -73,58 +90,52 @@ fn carry_out(
     settings: Settings,
     reply: &mut [u8],
 ) -> Answered
-    requires { ⌜ silentOf (callOf (now frame) (now points) (now columns) (now journal) (kept .used) axes settings (now reply)) ≡ 0 ⌝ }
-    requires { ⌜ asked ≡ askedOf (heldIn (now points)) (settings .fitted) (now frame) ⌝ }
-    ensures { λ r. ⌜ Answers (answerOf (callOf (now (frame .entry)) (now (points .entry)) (now (columns .entry)) (now (journal .entry)) (kept .used) axes settings (now (reply .entry)))) r (now (points .exit)) (now (columns .exit)) (now (journal .exit)) (now (reply .entry)) (now (reply .exit)) ⌝ }
+    requires { ⌜ Heard (callOf (now frame) axes settings (now reply) (areasOf (now points) (now columns) (now journal) kept)) m start count ⌝ }
+    ensures { λ r. ⌜ Answers
+        (callOf (now (frame .entry)) axes settings (now (reply .entry))
+        (areasOf (now (points .entry)) (now (columns .entry)) (now (journal .entry)) kept))
+        r (areasOf (now (points .exit)) (now (columns .exit)) (now (journal .exit)) (r .kept)) (now (reply .exit)) ⌝ }
 {
-    let n = points.len() / Point::SLOT;
     let station = settings.station;
-    let records = axes.records;
-    let rest = content(frame);
-    match asked {
-        Asked::UnknownMessage => refuse(reply, station, 101, kept),
-        Asked::NotDigits => refuse(reply, station, 102, kept),
-        Asked::WrongLength => refuse(reply, station, 103, kept),
-        Asked::WrongProgram => refuse(reply, station, 104, kept),
-        Asked::CountZero => refuse(reply, station, 105, kept),
-        Asked::NotHeld => refuse(reply, station, 106, kept),
-        Asked::WrongPattern => refuse(reply, station, 107, kept),
-        Asked::TestCall => accept(reply_same(reply, station, frame, 13), kept.used),
-        Asked::CountPoints => accept(reply_count(reply, station, frame, points, n), kept.used),
-        Asked::ListPoints { start, count } => {
-            let long = reply_list(reply, station, frame, points, start, count);
+    let held = Held::by(points.len());
+    let k = held.kind(m.tag);
+    let fields = m.program + m.start + m.count;
+    let body = content(frame);
+    let rest = &body[fields..];
+    let does = m.does;
+    match does {
+        Action::SayBack => accept(reply_same(reply, station, m, rest), kept.used),
+        Action::CountPoints => {
+            let long = reply_count(reply, station, m, points, held.points);
             accept(long, kept.used)
         }
-        Asked::ReadColumns { start, count } => {
-            let long = reply_columns(reply, station, frame, columns, start, count);
+        Action::ListPoints => {
+            let at = k.place(start);
+            let long = reply_list(reply, station, m, &points[at..], start, count);
             accept(long, kept.used)
         }
-        Asked::AxisStatus { pattern } => {
-            let long = reply_axes(reply, station, frame, pattern & settings.fitted, records);
+        Action::ReadRun => {
+            let long = reply_run(reply, station, m, k, columns, start, count);
             accept(long, kept.used)
         }
-        Asked::WritePoints { start, count } => {
-            let left = write_points(points, journal, kept.used, &rest[6..], start, count, n);
-            accept(reply_same(reply, station, frame, 9), left)
+        Action::AxisStatus => {
+            let pattern = digits::number(rest) as u8;
+            let records = axes.records;
+            let long = reply_axes(reply, station, m, pattern & settings.fitted, records);
+            accept(long, kept.used)
         }
-        Asked::ClearPoints { start, count } => {
-            let left = clear_points(points, journal, kept.used, start, count, n);
-            accept(reply_same(reply, station, frame, 3), left)
+        Action::WritePoints => {
+            let left = write_points(points, journal, kept.used, held, k, start, count, rest);
+            accept(reply_head(reply, station, m, start, count), left)
         }
-        Asked::ChangeColumns { start, count } => {
-            let left = change_columns(columns, journal, kept.used, &rest[7..], start, count, n);
-            accept(reply_same(reply, station, frame, 3), left)
+        Action::ClearRun => {
+            let left = clear(points, journal, kept.used, held, k, start, count);
+            accept(reply_head(reply, station, m, start, count), left)
         }
-    }
-}
-
-fn accept(long: usize, used: usize) -> Answered
-    ensures { λ r. ⌜ (r .number ≡ 0) × (r .length ≡ long) × (r .kept .used ≡ used) ⌝ }
-{
-    Answered {
-        number: 0,
-        length: long,
-        kept: Kept { used },
+        Action::ChangeRun => {
+            let left = change(columns, journal, kept.used, held, k, start, count, rest);
+            accept(reply_head(reply, station, m, start, count), left)
+        }
     }
 }
 
@@ -139,11 +150,16 @@ pub fn answer(
     settings: Settings,
     reply: &mut [u8],
 ) -> Answered
-    ensures { λ r. ⌜ Answers (answerOf (callOf (now (frame .entry)) (now (points .entry)) (now (columns .entry)) (now (journal .entry)) (kept .used) axes settings (now (reply .entry)))) r (now (points .exit)) (now (columns .exit)) (now (journal .exit)) (now (reply .entry)) (now (reply .exit)) ⌝ }
+    ensures { λ r. ⌜ Answers
+        (callOf (now (frame .entry)) axes settings (now (reply .entry))
+        (areasOf (now (points .entry)) (now (columns .entry)) (now (journal .entry)) kept))
+        r (areasOf (now (points .exit)) (now (columns .exit)) (now (journal .exit)) (r .kept)) (now (reply .exit)) ⌝ }
 {
-    let used = kept.used;
-    let fitted = settings.fitted;
-    let number = silent(frame, points, columns, journal, used, axes, settings, reply);
+    let lengths = Lengths {
+        points: points.len(),
+        columns: columns.len(),
+    };
+    let number = silent(reply.len(), frame, axes, settings, lengths, journal, kept);
     if number != 0 {
         return Answered {
             number,
@@ -151,18 +167,27 @@ pub fn answer(
             kept,
         };
     }
-    let asked = judge(frame, points.len() / Point::SLOT, fitted);
-    carry_out(
-        asked,
-        frame,
-        points,
-        columns,
-        journal,
-        kept,
-        axes,
-        settings,
-        reply,
-    )
+    let asked = judge(frame, Held::by(points.len()), settings.fitted);
+    match asked {
+        Asked::Refused { number: given } => refuse(reply, settings.station, given, kept),
+        Asked::Order {
+            message,
+            start,
+            count,
+        } => carry_out(
+            message,
+            start,
+            count,
+            frame,
+            points,
+            columns,
+            journal,
+            kept,
+            axes,
+            settings,
+            reply,
+        ),
+    }
 }
 
 // The same answer with the axis records as the motion board lends them: any count.
@@ -176,25 +201,55 @@ pub fn answer_lent(
     settings: Settings,
     reply: &mut [u8],
 ) -> Answered
-    ensures { λ r. ⌜ Answers (answerOf (callOf (now (frame .entry)) (now (points .entry)) (now (columns .entry)) (now (journal .entry)) (kept .used) (lentAxes (now (records .entry))) settings (now (reply .entry)))) r (now (points .exit)) (now (columns .exit)) (now (journal .exit)) (now (reply .entry)) (now (reply .exit)) ⌝ }
+    ensures { λ r. ⌜ Answers
+        (callOf (now (frame .entry)) (lentAxes (now (records .entry))) settings (now (reply .entry))
+        (areasOf (now (points .entry)) (now (columns .entry)) (now (journal .entry)) kept))
+        r (areasOf (now (points .exit)) (now (columns .exit)) (now (journal .exit)) (r .kept)) (now (reply .exit)) ⌝ }
 {
     let axes = axes_of(records);
     answer(frame, points, columns, journal, kept, axes, settings, reply)
 }
 
+// An entry's bytes put back into the area of its kind.
+fn put_back(points: &mut [u8], columns: &mut [u8], held: Held, tag: u8, start: usize, old: &[u8])
+    requires { ⌜ Sound held × Good held (entryFor tag start (now old)) ⌝ }
+    requires { ⌜ (length (now points) ≡ sizeOf (pointsOf held)) × (length (now columns) ≡ sizeOf columnsOf) ⌝ }
+    ensures { λ _. ⌜ now (points .exit) ≡ puts (pointsOf held) (entryFor tag start (now (old .entry))) (now (points .entry)) ⌝ }
+    ensures { λ _. ⌜ now (columns .exit) ≡ puts columnsOf (entryFor tag start (now (old .entry))) (now (columns .entry)) ⌝ }
+{
+    restore(points, held.kind(Kind::POINTS), tag, start, old);
+    restore(columns, held.kind(Kind::COLUMNS), tag, start, old);
+}
+
 // The local call from the service panel: the last entry's bytes go back. Any areas, any lengths.
 pub fn step_back(points: &mut [u8], columns: &mut [u8], journal: &mut [u8], kept: Kept) -> Back
-    ensures { λ r. ⌜ StepsBack (backOf (backCall (now (points .entry)) (now (columns .entry)) (now (journal .entry)) (kept .used))) r (now (points .exit)) (now (columns .exit)) (now (journal .exit)) ⌝ }
+    ensures { λ r. ⌜ StepsBack
+        (areasOf (now (points .entry)) (now (columns .entry)) (now (journal .entry)) kept)
+        r (areasOf (now (points .exit)) (now (columns .exit)) (now (journal .exit)) (r .kept)) ⌝ }
 {
-    let used = kept.used;
-    let number = back_refusal(points, columns, journal, used);
+    let lengths = Lengths {
+        points: points.len(),
+        columns: columns.len(),
+    };
+    let number = back_refusal(lengths, journal, kept);
     if number != 0 {
         return Back { number, kept };
     }
-    let n = points.len() / Point::SLOT;
-    let left = journal::step_back(points, columns, journal, used, n);
+    let held = Held::by(points.len());
+    let used = kept.used;
+    let last = find_last(journal, used, held);
+    let at = last.at;
+    put_back(
+        points,
+        columns,
+        held,
+        last.tag,
+        last.start,
+        &journal[at + 5..used],
+    );
+    remove(journal, at);
     Back {
         number: 0,
-        kept: Kept { used: left },
+        kept: Kept { used: at },
     }
 }

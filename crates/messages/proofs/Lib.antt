@@ -1,3 +1,3 @@
-pub mod Judging
 pub mod Patterns
-pub mod Readiness
+pub mod Judged
+pub mod Shapes

@@ -1,80 +1,69 @@
 -- Document 01, "Refusal numbers, in the order tested", 101 to 107: what a message with its content asks.
 use Prim.Native.Nat.{ℕ}
-use mathlib.Core.Bool.{Bool, cond, not, _&&_}
-use mathlib.Core.List.{List}
-use lib.Dec.{eqb}
-use lib.ListN.{drop}
-use Rattle.digits.specs.Digits.{allDigits, numberOf}
+use mathlib.Core.Bool.{Bool, true, cond, not, _&&_}
+use mathlib.Core.List.{List, [], _∷_}
+use lib.Dec.{leb, eqb}
+use Rattle.digits.specs.Digits.{allDigits}
 use Rattle.frames.specs.Frame.{contentIn}
-use Rattle.areas.specs.Kinds.{holds}
-use Rattle.messages.specs.declared.Message.{Message}
-use Rattle.messages.specs.declared.Message.the-variants.{Test, Count, Points, Columns, Axes, Write, Clear, Change, Unknown}
+use Rattle.areas.specs.declared.kinds.Held.{Held}
+use Rattle.areas.specs.Kinds.{kindOf, holds}
+use Rattle.messages.specs.declared.table.Message.{Message}
+use Rattle.messages.specs.declared.table.Named.{Named}
+use Rattle.messages.specs.declared.table.Named.the-variants.{Known, Unknown}
 use Rattle.messages.specs.declared.Asked.{Asked}
-use Rattle.messages.specs.declared.Asked.the-variants.{
-  UnknownMessage,
-  NotDigits,
-  WrongLength,
-  WrongProgram,
-  CountZero,
-  NotHeld,
-  WrongPattern,
-  TestCall,
-  CountPoints,
-  ListPoints,
-  ReadColumns,
-  AxisStatus,
-  WritePoints,
-  ClearPoints,
-  ChangeColumns,
-}
-use Rattle.messages.specs.Layout.{messageOf, programOf, startOf, countOf, namesRun, kindFor, lengthRight, isTest, isWrite, isUnknown, patternsFit}
+use Rattle.messages.specs.declared.Asked.the-variants.{Refused, Order}
+use Rattle.messages.specs.Rows.{Row, _when_, firstOf}
+use Rattle.messages.specs.Table.{messageOf, programIn, startIn, countIn, restIn, lengthRight, anyBytes, havePoints, patternsFit}
 
 -- 102: "a content byte isn't a digit (not 200H)"
 abbrev pub notDigits : Message → List ℕ → Bool
-notDigits m content = not (isTest m) && not (allDigits content)
+notDigits m content = not (anyBytes (m .follows)) && not (allDigits content)
 
 -- 103: "content length isn't this message's"
-abbrev pub wrongLength : Message → List ℕ → Bool
-wrongLength m content = not (lengthRight m content)
+abbrev pub wrongLength : Held → Message → List ℕ → Bool
+wrongLength held m content = not (lengthRight held m content)
 
 -- 104: "program number not 00"
 abbrev pub wrongProgram : Message → List ℕ → Bool
-wrongProgram m content = not (eqb (programOf m content) 0)
+wrongProgram m content = not (eqb (programIn m content) 0)
 
 -- 105: "count zero"
 abbrev pub countZero : Message → List ℕ → Bool
-countZero m content = namesRun m && eqb (countOf m content) 0
+countZero m content = leb 1 (m .count) && eqb (countIn m content) 0
 
 -- 106: "a number from start to start+count-1 not held"
-abbrev pub notHeld : ℕ → Message → List ℕ → Bool
-notHeld n m content = namesRun m && not (holds (kindFor n m) (startOf m content) (countOf m content))
+abbrev pub notHeld : Held → Message → List ℕ → Bool
+notHeld held m content = leb 1 (m .start) && not (holds (kindOf held (m .tag)) (startIn m content) (countIn m content))
 
 -- 107: "in 244H, a pattern 00 or with an unfitted axis"
 abbrev pub wrongPattern : ℕ → Message → List ℕ → Bool
-wrongPattern fitted m content = isWrite m && not (patternsFit fitted (countOf m content) (drop 6 content))
+wrongPattern fitted m content = havePoints (m .follows) && not (patternsFit fitted (countIn m content) (restIn m content))
 
--- what a message orders, with its numbers
-abbrev pub orderOf : Message → List ℕ → Asked
-orderOf Test content = TestCall
-orderOf Count content = CountPoints
-orderOf Points content = ListPoints (startOf Points content) (countOf Points content)
-orderOf Columns content = ReadColumns (startOf Columns content) (countOf Columns content)
-orderOf Axes content = AxisStatus (numberOf content)
-orderOf Write content = WritePoints (startOf Write content) (countOf Write content)
-orderOf Clear content = ClearPoints (startOf Clear content) (countOf Clear content)
-orderOf Change content = ChangeColumns (startOf Change content) (countOf Change content)
-orderOf Unknown content = UnknownMessage
+-- 101: "message unknown"; then the rows of a message that is known
+unfoldable pub askedRows : Held → ℕ → Named → List ℕ → List Row
+askedRows held fitted Unknown content = (101 when true) ∷ []
+askedRows held fitted (Known m) content =
+    (102 when (notDigits m content))
+    ∷ (103 when (wrongLength held m content))
+    ∷ (104 when (wrongProgram m content))
+    ∷ (105 when (countZero m content))
+    ∷ (106 when (notHeld held m content))
+    ∷ (107 when (wrongPattern fitted m content))
+    ∷ []
 
--- "Each is given exactly when its condition holds and none earlier does."
-unfoldable pub judged : ℕ → ℕ → Message → List ℕ → Asked
-judged n fitted m content =
-    cond (isUnknown m) UnknownMessage
-    (cond (notDigits m content) NotDigits
-    (cond (wrongLength m content) WrongLength
-    (cond (wrongProgram m content) WrongProgram
-    (cond (countZero m content) CountZero
-    (cond (notHeld n m content) NotHeld (cond (wrongPattern fitted m content) WrongPattern (orderOf m content)))))))
+-- the refusal's number, or, where none is given, the order with its numbers
+unfoldable pub judged : Held → ℕ → Named → List ℕ → Asked
+judged held fitted Unknown content = Refused (firstOf (askedRows held fitted Unknown content))
+judged held fitted (Known m) content =
+    cond (eqb (firstOf (askedRows held fitted (Known m) content)) 0)
+    (Order m (startIn m content) (countIn m content))
+    (Refused (firstOf (askedRows held fitted (Known m) content)))
 
--- what a frame asks of a board with n points and these axes fitted
-unfoldable pub askedOf : ℕ → ℕ → List ℕ → Asked
-askedOf n fitted frame = judged n fitted (messageOf frame) (contentIn frame)
+-- what a frame asks of a board that holds so much, with these axes fitted
+unfoldable pub askedOf : Held → ℕ → List ℕ → Asked
+askedOf held fitted frame = judged held fitted (messageOf frame) (contentIn frame)
+
+-- the number of each case: a refusal's own, and 0 for an order
+abbrev pub numberGiven : Asked → ℕ
+numberGiven (Refused number) = number
+numberGiven (Order m start count) = 0

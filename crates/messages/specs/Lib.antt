@@ -1,2 +1,3 @@
-pub mod Layout
+pub mod Rows
+pub mod Table
 pub mod Asked

@@ -1,49 +1,39 @@
 // What a frame asks: a read-only judgement (document 01, "Each message" and refusals 101 to 107).
+use areas::kinds::Held;
 use areas::kinds::Kind;
 use digits::Field;
 use points::reading::fills;
 use points::reading::point_length;
+use table::Follows;
+use table::Message;
+use table::Named;
+use table::numbered;
 ghost use mathlib.Core.Path.{_≡_};
-ghost use mathlib.Core.Bool.{true, cond};
-ghost use Prim.Native.Nat.{_+_, _≤_, _<_};
+ghost use mathlib.Core.Bool.{true, not, _&&_};
+ghost use Prim.Native.Nat.{_+_, _*_, _≤_, _<_};
+ghost use lib.Dec.{leb, eqb};
 ghost use lib.ListN.{length};
 ghost use Rattle.digits.specs.Digits.{allDigits, numberOf};
 ghost use Rattle.frames.specs.Frame.{contentIn};
+ghost use Rattle.areas.specs.Kinds.{Sound, holds};
 ghost use Rattle.points.specs.Point.{fillsOf};
-ghost use Rattle.messages.specs.declared.Message.the-variants.{Test, Count, Points, Columns, Axes, Write, Clear, Change};
-ghost use Rattle.messages.specs.Layout.{messageNumbered, messageOf, patternFits, patternsFit};
-ghost use Rattle.messages.specs.Asked.{judged, askedOf};
+ghost use Rattle.messages.specs.declared.table.Named.the-variants.{Known};
+ghost use Rattle.messages.specs.Table.{messageOf, fieldsOf, programIn, startIn, countIn, followsRight, Narrow};
+ghost use Rattle.messages.specs.Table.{anyBytes, havePoints, patternFits, patternsFit};
+ghost use Rattle.messages.specs.Asked.{notDigits, judged, askedOf};
 
-// The messages that the board answers.
-pub enum Message {
-    Test,
-    Count,
-    Points,
-    Columns,
-    Axes,
-    Write,
-    Clear,
-    Change,
-    Unknown,
-}
+pub mod table; // one row a message
 
-// What a frame asks: the refusals 101 to 107 by name, or the order with its numbers.
+// What a frame asks: a refusal, 101 to 107, or a message's order with its start number and count.
 pub enum Asked {
-    UnknownMessage,
-    NotDigits,
-    WrongLength,
-    WrongProgram,
-    CountZero,
-    NotHeld,
-    WrongPattern,
-    TestCall,
-    CountPoints,
-    ListPoints { start: usize, count: usize },
-    ReadColumns { start: usize, count: usize },
-    AxisStatus { pattern: u8 },
-    WritePoints { start: usize, count: usize },
-    ClearPoints { start: usize, count: usize },
-    ChangeColumns { start: usize, count: usize },
+    Refused {
+        number: u16,
+    },
+    Order {
+        message: Message,
+        start: usize,
+        count: usize,
+    },
 }
 
 // The content of a frame.
@@ -55,125 +45,123 @@ pub fn content(frame: &[u8]) -> &[u8]
     &frame[6..end]
 }
 
-// The message of an ID.
-fn numbered(id: u64) -> Message
-    ensures { λ r. ⌜ r ≡ messageNumbered id ⌝ }
-{
-    match id {
-        0x200 => Message::Test,
-        0x208 => Message::Count,
-        0x209 => Message::Points,
-        0x210 => Message::Columns,
-        0x212 => Message::Axes,
-        0x244 => Message::Write,
-        0x246 => Message::Clear,
-        0x24e => Message::Change,
-        _ => Message::Unknown,
-    }
-}
-
 // The message of a frame.
-fn message_in(frame: &[u8]) -> Message
+fn message_in(frame: &[u8]) -> Named
     requires { ⌜ 10 ≤ length (now frame) ⌝ }
     ensures { λ r. ⌜ r ≡ messageOf (now (frame .entry)) ⌝ }
 {
     let id = digits::read_field(&frame[3..6]);
     match id {
         Field::Number(k) => numbered(k),
-        Field::NotDigits => Message::Unknown,
+        Field::NotDigits => Named::Unknown,
     }
 }
 
-// The number of a field of up to three digits.
+// The number of a field of up to four digits.
 fn small(field: &[u8]) -> usize
-    requires { ⌜ (length (now field) ≤ 3) × (allDigits (now field) ≡ true) ⌝ }
-    ensures { λ r. ⌜ (r ≡ numberOf (now (field .entry))) × (r < 4096) ⌝ }
+    requires { ⌜ length (now field) ≤ 4 ⌝ }
+    ensures { λ r. ⌜ (r ≡ numberOf (now (field .entry))) × (r < 65536) ⌝ }
 {
     digits::number(field) as usize
 }
 
-fn judge_test(content: &[u8]) -> Asked
-    ensures { λ r. ⌜ r ≡ judged 0 0 Test (now (content .entry)) ⌝ }
-{
-    if content.len() != 10 {
-        return Asked::WrongLength;
-    }
-    Asked::TestCall
+// Program number, start number and count of a content.
+struct Numbers {
+    program: usize,
+    start: usize,
+    count: usize,
 }
 
-fn judge_count(content: &[u8]) -> Asked
-    ensures { λ r. ⌜ r ≡ judged 0 0 Count (now (content .entry)) ⌝ }
+fn read_numbers(m: Message, content: &[u8]) -> Numbers
+    requires { ⌜ Narrow m × (fieldsOf m ≤ length (now content)) ⌝ }
+    ensures { λ r. ⌜ (r .program ≡ programIn m (now (content .entry)))
+        × (r .start ≡ startIn m (now (content .entry))) × (r .count ≡ countIn m (now (content .entry))) ⌝ }
+    ensures { λ r. ⌜ (r .start < 65536) × (r .count < 65536) ⌝ }
 {
-    if !digits::all_digits(content) {
-        return Asked::NotDigits;
+    let p = m.program;
+    let s = p + m.start;
+    let c = s + m.count;
+    let program = small(&content[..p]);
+    let start = small(&content[p..s]);
+    let count = small(&content[s..c]);
+    Numbers {
+        program,
+        start,
+        count,
     }
-    if content.len() != 0 {
-        return Asked::WrongLength;
-    }
-    Asked::CountPoints
 }
 
-// 209H, or 246H where the points are to be cleared.
-fn judge_points(content: &[u8], n: usize, clear: bool) -> Asked
-    requires { ⌜ n ≤ 1500 ⌝ }
-    ensures { λ r. ⌜ r ≡ judged n 0 (cond clear Clear Points) (now (content .entry)) ⌝ }
+// Ten bytes that may be any follow.
+fn is_any(follows: Follows) -> bool
+    ensures { λ r. ⌜ r ≡ anyBytes follows ⌝ }
 {
-    if !digits::all_digits(content) {
-        return Asked::NotDigits;
+    match follows {
+        Follows::Nothing => false,
+        Follows::TenBytes => true,
+        Follows::AxisPattern => false,
+        Follows::Points => false,
+        Follows::RunBytes => false,
     }
-    if content.len() != 6 {
-        return Asked::WrongLength;
-    }
-    let start = small(&content[0..3]);
-    let count = small(&content[3..6]);
-    if count == 0 {
-        return Asked::CountZero;
-    }
-    if !Kind::points(n).has(start, count) {
-        return Asked::NotHeld;
-    }
-    if clear {
-        return Asked::ClearPoints { start, count };
-    }
-    Asked::ListPoints { start, count }
 }
 
-fn judge_columns(content: &[u8]) -> Asked
-    ensures { λ r. ⌜ r ≡ judged 0 0 Columns (now (content .entry)) ⌝ }
+// Points follow.
+fn is_points(follows: Follows) -> bool
+    ensures { λ r. ⌜ r ≡ havePoints follows ⌝ }
 {
-    if !digits::all_digits(content) {
-        return Asked::NotDigits;
+    match follows {
+        Follows::Nothing => false,
+        Follows::TenBytes => false,
+        Follows::AxisPattern => false,
+        Follows::Points => true,
+        Follows::RunBytes => false,
     }
-    if content.len() != 7 {
-        return Asked::WrongLength;
-    }
-    let program = small(&content[0..2]);
-    let start = small(&content[2..5]);
-    let count = small(&content[5..7]);
-    if program != 0 {
-        return Asked::WrongProgram;
-    }
-    if count == 0 {
-        return Asked::CountZero;
-    }
-    if Kind::columns().has(start, count) {
-        return Asked::ReadColumns { start, count };
-    }
-    Asked::NotHeld
 }
 
-fn judge_axes(content: &[u8]) -> Asked
-    ensures { λ r. ⌜ r ≡ judged 0 0 Axes (now (content .entry)) ⌝ }
+// Refusal 102, passed.
+fn is_written(m: Message, content: &[u8]) -> bool
+    ensures { λ r. ⌜ r ≡ not (notDigits m (now (content .entry))) ⌝ }
 {
-    if !digits::all_digits(content) {
-        return Asked::NotDigits;
+    let follows = m.follows;
+    if is_any(follows) {
+        return true;
     }
-    if content.len() != 2 {
-        return Asked::WrongLength;
+    digits::all_digits(content)
+}
+
+// What follows the fields is as long as it should be, behind a count of units of so many bytes.
+fn is_long(follows: Follows, unit: usize, count: usize, rest: &[u8]) -> bool
+    requires { ⌜ (count * unit < 4294967296) × (havePoints follows ≡ true → allDigits (now rest) ≡ true) ⌝ }
+    ensures { λ r. ⌜ r ≡ followsRight follows unit count (now (rest .entry)) ⌝ }
+{
+    let n = rest.len();
+    match follows {
+        Follows::Nothing => n == 0,
+        Follows::TenBytes => n == 10,
+        Follows::AxisPattern => n == 2,
+        Follows::Points => fills(rest, count),
+        Follows::RunBytes => n == 2 * (count * unit),
     }
-    Asked::AxisStatus {
-        pattern: digits::number(content) as u8,
+}
+
+// Refusal 105.
+fn is_none(m: Message, count: usize) -> bool
+    ensures { λ r. ⌜ r ≡ leb 1 (m .count) && eqb count 0 ⌝ }
+{
+    if m.count < 1 {
+        return false;
     }
+    count == 0
+}
+
+// Refusal 106.
+fn is_beyond(m: Message, k: Kind, start: usize, count: usize) -> bool
+    requires { ⌜ (start < 65536) × (count < 65536) × (k .first + k .held < 65536) ⌝ }
+    ensures { λ r. ⌜ r ≡ leb 1 (m .start) && not (holds k start count) ⌝ }
+{
+    if m.start < 1 {
+        return false;
+    }
+    !k.has(start, count)
 }
 
 // A pattern is not 00, and each of its axes is fitted.
@@ -204,76 +192,64 @@ fn fit_patterns(digits: &[u8], count: usize, fitted: u8) -> bool
     true
 }
 
-fn judge_write(content: &[u8], n: usize, fitted: u8) -> Asked
-    requires { ⌜ n ≤ 1500 ⌝ }
-    ensures { λ r. ⌜ r ≡ judged n fitted Write (now (content .entry)) ⌝ }
+// Refusal 107.
+fn is_unfit(follows: Follows, count: usize, rest: &[u8], fitted: u8) -> bool
+    requires { ⌜ (havePoints follows ≡ true → (allDigits (now rest) ≡ true) × (fillsOf count (now rest) ≡ true)) ⌝ }
+    ensures { λ r. ⌜ r ≡ havePoints follows && not (patternsFit fitted count (now (rest .entry))) ⌝ }
 {
-    if !digits::all_digits(content) {
-        return Asked::NotDigits;
+    if !is_points(follows) {
+        return false;
     }
-    if content.len() < 6 {
-        return Asked::WrongLength;
-    }
-    let start = small(&content[0..3]);
-    let count = small(&content[3..6]);
-    if !fills(&content[6..], count) {
-        return Asked::WrongLength;
-    }
-    if count == 0 {
-        return Asked::CountZero;
-    }
-    if !Kind::points(n).has(start, count) {
-        return Asked::NotHeld;
-    }
-    if fit_patterns(&content[6..], count, fitted) {
-        return Asked::WritePoints { start, count };
-    }
-    Asked::WrongPattern
+    !fit_patterns(rest, count, fitted)
 }
 
-fn judge_change(content: &[u8]) -> Asked
-    ensures { λ r. ⌜ r ≡ judged 0 0 Change (now (content .entry)) ⌝ }
+// What a message with its content asks: 102 to 107 in this order, or its order.
+fn judge_content(m: Message, content: &[u8], held: Held, fitted: u8) -> Asked
+    requires { ⌜ Narrow m × Sound held ⌝ }
+    ensures { λ r. ⌜ r ≡ judged held fitted (Known m) (now (content .entry)) ⌝ }
 {
-    if !digits::all_digits(content) {
-        return Asked::NotDigits;
+    if !is_written(m, content) {
+        return Asked::Refused { number: 102 };
     }
-    if content.len() < 7 {
-        return Asked::WrongLength;
+    let fields = m.program + m.start + m.count;
+    if content.len() < fields {
+        return Asked::Refused { number: 103 };
     }
-    let program = small(&content[0..2]);
-    let start = small(&content[2..5]);
-    let count = small(&content[5..7]);
-    if content.len() != 7 + 2 * count {
-        return Asked::WrongLength;
+    let n = read_numbers(m, content);
+    let k = held.kind(m.tag);
+    let follows = m.follows;
+    let rest = &content[fields..];
+    if !is_long(follows, k.unit, n.count, rest) {
+        return Asked::Refused { number: 103 };
     }
-    if program != 0 {
-        return Asked::WrongProgram;
+    if n.program != 0 {
+        return Asked::Refused { number: 104 };
     }
-    if count == 0 {
-        return Asked::CountZero;
+    if is_none(m, n.count) {
+        return Asked::Refused { number: 105 };
     }
-    if Kind::columns().has(start, count) {
-        return Asked::ChangeColumns { start, count };
+    if is_beyond(m, k, n.start, n.count) {
+        return Asked::Refused { number: 106 };
     }
-    Asked::NotHeld
+    if is_unfit(follows, n.count, rest, fitted) {
+        return Asked::Refused { number: 107 };
+    }
+    Asked::Order {
+        message: m,
+        start: n.start,
+        count: n.count,
+    }
 }
 
-// What a frame asks of a board with n points and these axes fitted.
-pub fn judge(frame: &[u8], n: usize, fitted: u8) -> Asked
-    requires { ⌜ (10 ≤ length (now frame)) × (n ≤ 1500) ⌝ }
-    ensures { λ r. ⌜ r ≡ askedOf n fitted (now (frame .entry)) ⌝ }
+// What a frame asks of a board that holds so much, with these axes fitted.
+pub fn judge(frame: &[u8], held: Held, fitted: u8) -> Asked
+    requires { ⌜ (10 ≤ length (now frame)) × Sound held ⌝ }
+    ensures { λ r. ⌜ r ≡ askedOf held fitted (now (frame .entry)) ⌝ }
 {
     let rest = content(frame);
-    let asked = message_in(frame);
-    match asked {
-        Message::Test => judge_test(rest),
-        Message::Count => judge_count(rest),
-        Message::Points => judge_points(rest, n, false),
-        Message::Columns => judge_columns(rest),
-        Message::Axes => judge_axes(rest),
-        Message::Write => judge_write(rest, n, fitted),
-        Message::Clear => judge_points(rest, n, true),
-        Message::Change => judge_change(rest),
-        Message::Unknown => Asked::UnknownMessage,
+    let named = message_in(frame);
+    match named {
+        Named::Unknown => Asked::Refused { number: 101 },
+        Named::Known { message } => judge_content(message, rest, held, fitted),
     }
 }

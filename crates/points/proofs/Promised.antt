@@ -22,7 +22,7 @@ use Rattle.points.specs.Axes.{axesFrom, axesOf}
 use Rattle.points.specs.Point.{zeroPoint, positionOf, positionsOf, pointOf, lengthOf, positionBytes, slotOf, positionsIn, pointIn, positionDigits, pointDigits}
 use Rattle.points.specs.Laws.{AllFit, Slot, ZeroSlot, EveryDigit}
 use Rattle.points.specs.Laws as laws
-use Rattle.points.proofs.Parts.{all-take, all-drop, all-part}
+use Rattle.points.proofs.Parts.{all-take, all-drop}
 use Rattle.points.proofs.Slotted.{length-slot, length-positionsOf}
 
 -- positions, as bytes and back
@@ -50,9 +50,9 @@ pub zero-slot : ZeroSlot
 unfolding slotOf positionBytes
 zero-slot = refl
 
--- eight digits are a number of 32 bits
-eight-fits : (s : List ℕ) → length s ≡ 8 → allDigits s ≡ true → Fits w32 (numberOf s)
-eight-fits s l a = record { fits = inverse 8 .bound s l a }
+-- what eight bytes write is a number of 32 bits
+eight-fits : (s : List ℕ) → length s ≡ 8 → Fits w32 (numberOf s)
+eight-fits s l = record { fits = inverse 8 .bound s l }
 
 -- the positions of k axes, from axis j on, fit, and their digits are the very digits
 abbrev Kept : ℕ → ℕ → Type 0
@@ -80,7 +80,7 @@ one-more k p ih j digits pre e = go (eqb (p % 2) 1)
         let v = positionOf (take 8 digits) in
         let ps = positionsOf k (p / 2) (drop 8 digits) in
         let n : length (take 8 digits) ≡ 8 = length-take-le 8 digits (omega arith) in
-        let f = eight-fits (take 8 digits) n (all-take 8 digits a) in
+        let f = eight-fits (take 8 digits) n in
         let m : length (drop 8 digits) ≡ 8 * length rest = simp length-drop (omega arith) in
         let h = ih (suc j) (drop 8 digits) (pre ++ (v ∷ [])) (next v) m (all-drop 8 digits a) in
         let w : digitsOf 8 (ofZ w32 (getD (pre ++ (v ∷ ps)) j (position (pos 0)) .0)) ≡ take 8 digits =
@@ -112,7 +112,7 @@ every-digit s l a =
     let n : length (drop 14 s) ≡ 8 * length (axesOf p) = simp length-drop (omega arith) in
     let h = kept 8 p 0 (drop 14 s) [] refl n (all-drop 14 s a) in
     let bound : (w at : ℕ) → at + w ≤ 14 → numberOf (take w (drop at s)) < 16 ^ w =
-    λ w at k. inverse w .bound (take w (drop at s)) (length-take-le w (drop at s) (simp length-drop (omega arith))) (all-part w at s a) in
+    λ w at k. inverse w .bound (take w (drop at s)) (length-take-le w (drop at s) (simp length-drop (omega arith))) in
     let d4 = field-back 4 (drop 10 s) _ (simp length-drop (omega arith)) (all-drop 10 s a) (h .1 ∙ sym (drop-drop 4 10 s)) in
     let d3 = field-back 4 (drop 6 s) _ (simp length-drop (omega arith)) (all-drop 6 s a) (d4 ∙ sym (drop-drop 4 6 s)) in
     let d2 = field-back 4 (drop 2 s) _ (simp length-drop (omega arith)) (all-drop 2 s a) (d3 ∙ sym (drop-drop 4 2 s)) in (

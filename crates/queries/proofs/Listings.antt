@@ -1,9 +1,9 @@
 -- Points listed, slot after slot, while there is room.
 use Prim.Native.Nat.{ℕ, zero, suc, _+_, _-_, _*_, _≤_, _<_}
-use mathlib.Core.Path.{_≡_, refl, sym, ap, ap₂, subst, _∙_}
+use mathlib.Core.Path.{_≡_, refl, sym, ap, subst, _∙_}
 use mathlib.Core.List.{List, [], _∷_, _++_}
 use native.Mathlib.Omega.{arith}
-use native.Mathlib.Nat.{not-suc-le-zero, add-zero, zero-add}
+use native.Mathlib.Nat.{not-suc-le-zero, add-zero, zero-add, add-assoc}
 use native.Mathlib.Numerals.{add-one}
 use lib.ListN.{length, drop, getD, length-append}
 use lib.Seq.{drop-drop, getD-drop}
@@ -71,52 +71,51 @@ laid-one whole rest s reply₀ reply after many digits g h k l e =
       same = l ∙ g .same;
     }
 
--- the list that is left at a number
-abbrev pub leftAt : ℕ → ℕ → ℕ → List ℕ → List (List ℕ)
-leftAt end number digits points = listed (1011 - digits) (end - number) number (drop ((number - 1) * 40) points)
+-- the list that is left from slot i on
+abbrev pub leftAt : ℕ → ℕ → ℕ → ℕ → List ℕ → List (List ℕ)
+leftAt start count i digits slots = listed (1011 - digits) (count - i) (start + i) (drop (i * 40) slots)
 
-module _ (points : List ℕ) (number : ℕ) (first : 1 ≤ number) where
-  pattern-at : getD (drop ((number - 1) * 40) points) 0 0 ≡ getD points ((number - 1) * 40) 0
-  pattern-at = getD-drop ((number - 1) * 40) points 0 0 ∙ ap (λ (x : ℕ). getD points x 0) (add-zero ((number - 1) * 40))
+module _ (slots : List ℕ) (i : ℕ) where
+  pattern-at : getD (drop (i * 40) slots) 0 0 ≡ getD slots (i * 40) 0
+  pattern-at = getD-drop (i * 40) slots 0 0 ∙ ap (λ (x : ℕ). getD slots x 0) (add-zero (i * 40))
 
-  next-slot : drop 40 (drop ((number - 1) * 40) points) ≡ drop ((number + 1 - 1) * 40) points
+  next-slot : drop 40 (drop (i * 40) slots) ≡ drop ((i + 1) * 40) slots
   next-slot =
-      let q : (number - 1) * 40 + 40 ≡ (number + 1 - 1) * 40 = omega arith in
-      drop-drop 40 ((number - 1) * 40) points ∙ ap (λ (x : ℕ). drop x points) q
+      let q : i * 40 + 40 ≡ (i + 1) * 40 = omega arith in
+      drop-drop 40 (i * 40) slots ∙ ap (λ (x : ℕ). drop x slots) q
 
-  module _ (end digits : ℕ) (more : number < end) where
-    fewer : end - number - 1 ≡ end - (number + 1)
+  module _ (start count digits : ℕ) (more : i < count) where
+    fewer : count - i - 1 ≡ count - (i + 1)
     fewer = omega arith
 
-    pub at-skip : getD points ((number - 1) * 40) 0 ≡ 0 → leftAt end number digits points ≡ leftAt end (number + 1) digits points
+    pub at-skip : getD slots (i * 40) 0 ≡ 0 → leftAt start count i digits slots ≡ leftAt start count (i + 1) digits slots
     at-skip e =
-        listed-skip (1011 - digits) (end - number) number (drop ((number - 1) * 40) points) (omega arith) (pattern-at ∙ e)
-        ∙ ap₂ (λ (x : ℕ) (y : List ℕ). listed (1011 - digits) x (number + 1) y) fewer next-slot
+        listed-skip (1011 - digits) (count - i) (start + i) (drop (i * 40) slots) (omega arith) (pattern-at ∙ e)
+        ∙ rw (fewer, next-slot, add-assoc)
 
-    pub at-full : (getD points ((number - 1) * 40) 0 ≡ 0 → ⊥) → 1011 - digits < 17 + 8 * length (axesOf (getD points ((number - 1) * 40) 0))
-        → leftAt end number digits points ≡ []
+    pub at-full : (getD slots (i * 40) 0 ≡ 0 → ⊥) → 1011 - digits < 17 + 8 * length (axesOf (getD slots (i * 40) 0)) → leftAt start count i digits slots ≡ []
     at-full e h =
-        let s = drop ((number - 1) * 40) points in
-        let l : length (listing number s) ≡ 17 + 8 * length (axesOf (getD points ((number - 1) * 40) 0)) = length-listing number s ∙ rw pattern-at in
-        listed-full (1011 - digits) (end - number) number s (omega arith) (λ z. e (sym pattern-at ∙ z)) (rw l h)
+        let s = drop (i * 40) slots in
+        let l : length (listing (start + i) s) ≡ 17 + 8 * length (axesOf (getD slots (i * 40) 0)) = length-listing (start + i) s ∙ rw pattern-at in
+        listed-full (1011 - digits) (count - i) (start + i) s (omega arith) (λ z. e (sym pattern-at ∙ z)) (rw l h)
 
-    pub at-more : (getD points ((number - 1) * 40) 0 ≡ 0 → ⊥) → 17 + 8 * length (axesOf (getD points ((number - 1) * 40) 0)) ≤ 1011 - digits
-        → leftAt end number digits points
-        ≡ listing number (drop ((number - 1) * 40) points)
-        ∷ leftAt end (number + 1) (digits + (17 + 8 * length (axesOf (getD points ((number - 1) * 40) 0)))) points
+    pub at-more : (getD slots (i * 40) 0 ≡ 0 → ⊥) → 17 + 8 * length (axesOf (getD slots (i * 40) 0)) ≤ 1011 - digits
+        → leftAt start count i digits slots
+        ≡ listing (start + i) (drop (i * 40) slots)
+        ∷ leftAt start count (i + 1) (digits + (17 + 8 * length (axesOf (getD slots (i * 40) 0)))) slots
     at-more e h =
-        let s = drop ((number - 1) * 40) points in
-        let n = 17 + 8 * length (axesOf (getD points ((number - 1) * 40) 0)) in
-        let l : length (listing number s) ≡ n = length-listing number s ∙ rw pattern-at in
+        let s = drop (i * 40) slots in
+        let n = 17 + 8 * length (axesOf (getD slots (i * 40) 0)) in
+        let l : length (listing (start + i) s) ≡ n = length-listing (start + i) s ∙ rw pattern-at in
         let r : 1011 - digits - n ≡ 1011 - (digits + n) = omega arith in
-        listed-more (1011 - digits) (end - number) number s (omega arith) (λ z. e (sym pattern-at ∙ z)) (rw l h)
-        ∙ ap (λ (x : List (List ℕ)). listing number s ∷ x) (rw (l, r, fewer, next-slot))
+        listed-more (1011 - digits) (count - i) (start + i) s (omega arith) (λ z. e (sym pattern-at ∙ z)) (rw l h)
+        ∙ ap (λ (x : List (List ℕ)). listing (start + i) s ∷ x) (rw (l, r, fewer, next-slot, add-assoc))
 
 -- nothing is listed yet
-pub at-first : (points reply : List ℕ) (start count : ℕ) → Left (listed 1011 count start (drop ((start - 1) * 40) points)) (leftAt (start + count) start 0 points) reply reply 0 0
-at-first points reply start count =
-    let m : start + count - start ≡ count = omega arith in
-    rw m (record { bytes = refl; count = zero-add _; text = zero-add _; within = omega arith; same = refl })
+pub at-first : (slots reply : List ℕ) (start count : ℕ) → Left (listed 1011 count start slots) (leftAt start count 0 0 slots) reply reply 0 0
+at-first slots reply start count =
+    let n : count - 0 ≡ count = omega arith in
+    rw (n, add-zero) (record { bytes = refl; count = zero-add _; text = zero-add _; within = omega arith; same = refl })
 
 module _ {whole rest : List (List ℕ)} {reply₀ reply : List ℕ} {many digits : ℕ} (g : Left whole rest reply₀ reply many digits) where
   pub moved : {rest′ : List (List ℕ)} → rest ≡ rest′ → Left whole rest′ reply₀ reply many digits
@@ -132,22 +131,22 @@ module _ {whole rest : List (List ℕ)} {reply₀ reply : List ℕ} {many digits
         sym (laid-nothing reply (9 + digits)) ∙ ap (λ (l : List (List ℕ)). laid reply (9 + digits) (joined l)) (sym e) ∙ g .bytes,
       )
 
-pub at-end : (points : List ℕ) (end number digits : ℕ) → end ≤ number → leftAt end number digits points ≡ []
-at-end points end number digits h = listed-end (1011 - digits) (end - number) number _ (omega arith)
+pub at-end : (slots : List ℕ) (start count i digits : ℕ) → count ≤ i → leftAt start count i digits slots ≡ []
+at-end slots start count i digits h = listed-end (1011 - digits) (count - i) (start + i) _ (omega arith)
 
 -- a turn that lists a point
-module _ (points : List ℕ) (number end digits n : ℕ) (first : 1 ≤ number) (p : Point) (e : p ≡ pointIn (drop ((number - 1) * 40) points)) where
-  pub pattern-in : p .pattern ≡ getD points ((number - 1) * 40) 0
+module _ (slots : List ℕ) (start count i digits n : ℕ) (p : Point) (e : p ≡ pointIn (drop (i * 40) slots)) where
+  pub pattern-in : p .pattern ≡ getD slots (i * 40) 0
   unfolding pointIn
-  pattern-in = ap (λ (q : Point). q .pattern) e ∙ pattern-at points number first
+  pattern-in = ap (λ (q : Point). q .pattern) e ∙ pattern-at slots i
 
-  pub took : {whole : List (List ℕ)} {reply₀ reply : List ℕ} {many : ℕ} (after : List ℕ) → number < end → Left whole (leftAt end number digits points) reply₀ reply many digits
-      → (getD points ((number - 1) * 40) 0 ≡ 0 → ⊥) → n ≡ length (axesOf (getD points ((number - 1) * 40) 0)) → 17 + 8 * n ≤ 1011 - digits → 1024 ≤ length reply
-      → length after ≡ length reply → after ≡ laid reply (9 + digits) (digitsOf 3 number ++ pointDigits p)
-      → Left whole (leftAt end (number + 1) (digits + (17 + 8 * n)) points) reply₀ after (many + 1) (digits + (17 + 8 * n))
+  pub took : {whole : List (List ℕ)} {reply₀ reply : List ℕ} {many : ℕ} (after : List ℕ) → i < count → Left whole (leftAt start count i digits slots) reply₀ reply many digits
+      → (getD slots (i * 40) 0 ≡ 0 → ⊥) → n ≡ length (axesOf (getD slots (i * 40) 0)) → 17 + 8 * n ≤ 1011 - digits → 1024 ≤ length reply
+      → length after ≡ length reply → after ≡ laid reply (9 + digits) (digitsOf 3 (start + i) ++ pointDigits p)
+      → Left whole (leftAt start count (i + 1) (digits + (17 + 8 * n)) slots) reply₀ after (many + 1) (digits + (17 + 8 * n))
   took {whole} {reply₀} {reply} {many} after more g z k room h l f =
-      let s = drop ((number - 1) * 40) points in
-      let t : length (listing number s) ≡ 17 + 8 * n = length-listing number s ∙ rw (pattern-at points number first, ← k) in
-      let m = at-more points number first end digits more z (rw (← k) room) in
-      let q = laid-one whole _ (listing number s) reply₀ reply after many digits (moved g m) h (omega arith) l (f ∙ rw e) in
+      let s = drop (i * 40) slots in
+      let t : length (listing (start + i) s) ≡ 17 + 8 * n = length-listing (start + i) s ∙ rw (pattern-at slots i, ← k) in
+      let m = at-more slots i start count digits more z (rw (← k) room) in
+      let q = laid-one whole _ (listing (start + i) s) reply₀ reply after many digits (moved g m) h (omega arith) l (f ∙ rw e) in
       rw (t, ← k) at q

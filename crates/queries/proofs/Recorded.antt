@@ -10,8 +10,9 @@ use Rattle.digits.specs.Laid.{laid}
 use Rattle.digits.proofs.Laid.{laid-on, laid-nothing}
 use Rattle.points.specs.Axes.{axesOf}
 use Rattle.points.proofs.Ones.{Turn, none}
-use Rattle.queries.specs.declared.AxisRecord.{AxisRecord}
-use Rattle.queries.specs.Replies.{zeroRecord, recordDigits, recordsDigits}
+use Rattle.axes.specs.declared.AxisRecord.{AxisRecord}
+use Rattle.axes.specs.Records.{zeroRecord}
+use Rattle.queries.specs.Replies.{recordDigits, recordsDigits}
 
 pub length-records : (axes : List ℕ) (records : List AxisRecord) → length (recordsDigits axes records) ≡ 16 * length axes
 unfolding recordsDigits

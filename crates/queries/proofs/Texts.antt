@@ -1,23 +1,29 @@
 -- Texts laid from byte 3 on, and replies closed over them.
 use Prim.Native.Nat.{ℕ, _+_, _-_, _*_, _≤_}
 use mathlib.Core.Path.{_≡_, refl, sym, ap, ap₂, _∙_}
+use mathlib.Core.Bool.{true, false}
 use mathlib.Core.List.{List, _++_, append-assoc}
 use native.Mathlib.Omega.{arith}
+use native.Mathlib.Nat.{add-sub-cancel-left}
 use lib.ListN.{length, take, drop, length-append, length-drop}
-use lib.Seq.{length-take-le, take-add, drop-drop, take-take, take-append-le, drop-at}
+use lib.Seq.{length-take-le, take-take, take-append-le, drop-at}
 use Rattle.digits.specs.Digits.{digitsOf}
 use Rattle.digits.specs.Laid.{laid}
 use Rattle.digits.proofs.Laid.{laid-on}
-use Rattle.areas.specs.Kinds.{columnsOf, runOf}
-use Rattle.areas.specs.Columns.{digitsIn}
-use Rattle.areas.proofs.Pairs.{length-digitsIn}
+use Rattle.digits.proofs.Inverse.{as-many}
+use Rattle.areas.specs.declared.kinds.Kind.{Kind}
+use Rattle.areas.specs.Kinds.{placeOf, runOf}
+use Rattle.areas.specs.Pairs.{digitsIn}
+use Rattle.areas.proofs.Paired.{length-digitsIn}
+use Rattle.axes.specs.declared.AxisRecord.{AxisRecord}
 use Rattle.points.specs.Axes.{axesOf}
 use Rattle.points.specs.Point.{effectiveIn}
-use Rattle.frames.specs.Frame.{messageIn, contentIn, replyOf, normal}
+use Rattle.frames.specs.Frame.{replyOf, normal}
 use Rattle.frames.proofs.Closing.{length-reply, closed-over}
+use Rattle.messages.specs.declared.table.Message.{Message}
+use Rattle.messages.specs.Table.{Narrow}
 use Rattle.queries.specs.Laws.{Replied}
-use Rattle.queries.specs.Replies.{countText, listed, joined, listText, columnsText, recordsDigits, axesText}
-use Rattle.queries.specs.declared.AxisRecord.{AxisRecord}
+use Rattle.queries.specs.Replies.{idOf, headOf, countText, listed, joined, listText, runText, recordsDigits, axesText}
 use Rattle.queries.proofs.Recorded.{length-records}
 
 -- a reply closed over a text that was laid
@@ -29,18 +35,12 @@ replied d r c text st n long e l f g h =
       bytes = h ∙ rw e (closed-over d text normal st n l f);
     }
 
-pub length-message : (frame : List ℕ) → 6 ≤ length frame → length (messageIn frame) ≡ 3
-length-message frame h = length-take-le 3 (drop 3 frame) (simp length-drop (omega arith))
-
--- a text starts with the message ID
-pub length-behind : (frame s : List ℕ) → 6 ≤ length frame → length (messageIn frame ++ s) ≡ 3 + length s
-length-behind frame s h = let l = length-message frame h in simp length-append (omega arith)
-
-pub behind : (d frame s : List ℕ) → 6 ≤ length frame → 3 ≤ length d → laid (laid d 3 (messageIn frame)) 6 s ≡ laid d 3 (messageIn frame ++ s)
-behind d frame s h k = laid-on d (messageIn frame) s 3 6 (ap (λ (x : ℕ). 3 + x) (length-message frame h)) k
+-- a text that starts with the message ID
+pub behind : (d r1 r2 s : List ℕ) (m : Message) → 3 ≤ length d → r1 ≡ laid d 3 (idOf m) → r2 ≡ laid r1 6 s → r2 ≡ laid d 3 (idOf m ++ s)
+behind d r1 r2 s m h e f = f ∙ rw e (laid-on d (idOf m) s 3 6 refl h)
 
 -- a field laid last, before what was laid behind it
-pub filled : (d s t : List ℕ) (at next : ℕ) → at + length s ≡ next → next ≤ length d → laid (laid d next t) at s ≡ laid d at (s ++ t)
+filled : (d s t : List ℕ) (at next : ℕ) → at + length s ≡ next → next ≤ length d → laid (laid d next t) at s ≡ laid d at (s ++ t)
 unfolding laid
 filled d s t at next e h =
     let l : length (take next d) ≡ next = length-take-le next d h in
@@ -48,69 +48,78 @@ filled d s t at next e h =
     rw (e, r, drop-at (take next d) (t ++ drop (next + length t) d) next l, take-append-le at (take next d) (t ++ drop (next + length t) d) (omega arith), take-take at next d (omega arith))
     (simp append-assoc)
 
--- 210H: ID and content said back, then the columns
-pub columns-laid : (d r1 r2 frame columns : List ℕ) (start count : ℕ) → length frame ≡ 17 → 3 ≤ length d → 300 ≤ start
-    → r1 ≡ laid d 3 (take 10 (drop 3 frame)) → r2 ≡ laid r1 13 (digitsIn (take (start - 300 + count - (start - 300)) (drop (start - 300) columns)))
-    → r2 ≡ laid d 3 (columnsText frame start count columns)
-unfolding runOf
-columns-laid d r1 r2 frame columns start count l h s e f =
-    let m : start - 300 + count - (start - 300) ≡ count * 1 = omega arith in
-    let p : start - 300 ≡ (start - 300) * 1 = omega arith in
-    let t : take 10 (drop 3 frame) ≡ messageIn frame ++ take 7 (drop 6 frame) = take-add 3 7 (drop 3 frame) ∙ rw (drop-drop 3 3 frame) in
-    let n : length (take 10 (drop 3 frame)) ≡ 10 = length-take-le 10 (drop 3 frame) (simp length-drop (omega arith)) in
-    let q = digitsIn (runOf columnsOf start count columns) in
-    f
-    ∙ ap₂ (λ (x y : List ℕ). laid x 13 (digitsIn y)) e (ap₂ (λ (x y : ℕ). take x (drop y columns)) m p)
-    ∙ laid-on d (take 10 (drop 3 frame)) q 3 13 (ap (λ (x : ℕ). 3 + x) n) h
-    ∙ ap (laid d 3) (ap (λ (x : List ℕ). x ++ q) t ∙ append-assoc (messageIn frame) (take 7 (drop 6 frame)) q ∙ rw l)
+-- the fields that a reply repeats: program number 00, start and count
+abbrev fieldsText : Message → ℕ → ℕ → List ℕ
+fieldsText m start count = digitsOf (m .program) 0 ++ (digitsOf (m .start) start ++ digitsOf (m .count) count)
 
-pub length-columns : (frame columns : List ℕ) (start count : ℕ) → length frame ≡ 17 → 300 ≤ start → start + count ≤ 300 + length columns
-    → length (columnsText frame start count columns) ≡ 10 + 2 * count
-unfolding runOf
-length-columns frame columns start count l s h =
-    let r = take (count * 1) (drop ((start - 300) * 1) columns) in
-    let n : length r ≡ count * 1 = length-take-le (count * 1) (drop ((start - 300) * 1) columns) (simp length-drop (omega arith)) in
-    let k : length (contentIn frame) ≡ 7 = rw l (length-take-le 7 (drop 6 frame) (simp length-drop (omega arith))) in
-    length-behind frame (contentIn frame ++ digitsIn r) (omega arith) ∙ simp length-append (omega (arith, length-digitsIn r))
+module _ (d : List ℕ) (m : Message) (start count : ℕ) where
+  pub fields-laid : (r1 r2 r3 : List ℕ) → 6 ≤ length d → r1 ≡ laid d 6 (digitsOf (m .program) 0)
+      → r2 ≡ laid r1 (6 + m .program) (digitsOf (m .start) start) → r3 ≡ laid r2 (6 + m .program + m .start) (digitsOf (m .count) count)
+      → r3 ≡ laid d 6 (fieldsText m start count)
+  fields-laid r1 r2 r3 h e f g =
+      let v = digitsOf (m .program) 0 in
+      let w = digitsOf (m .start) start in
+      let x = digitsOf (m .count) count in
+      let p : 6 + length v ≡ 6 + m .program = ap (λ (n : ℕ). 6 + n) (as-many (m .program) 0) in
+      let q : 6 + length (v ++ w) ≡ 6 + m .program + m .start = omega (arith, length-append v w, as-many (m .program) 0, as-many (m .start) start) in
+      g
+      ∙ rw (f, e, laid-on d v w 6 (6 + m .program) p h) (laid-on d (v ++ w) x 6 (6 + m .program + m .start) q h)
+      ∙ ap (laid d 6) (append-assoc v w x)
+
+  length-fields : length (fieldsText m start count) ≡ m .program + (m .start + m .count)
+  length-fields = simp (length-append, as-many)
+
+  module _ (r1 : List ℕ) (room : 3 ≤ length d) (e : r1 ≡ laid d 3 (idOf m)) where
+    pub head-repeating : (r2 : List ℕ) (end : ℕ) → Narrow m → m .repeats ≡ true → r2 ≡ laid r1 6 (fieldsText m start count)
+        → end ≡ 6 + (m .program + (m .start + m .count))
+        → ((end ≡ 3 + length (headOf m start count)) × (end ≤ 18)) × (r2 ≡ laid d 3 (headOf m start count))
+    head-repeating r2 end n t f g =
+        rw t ((omega (arith, length-fields), omega (arith, n .program, n .start, n .count)), behind d r1 r2 (fieldsText m start count) m room e f)
+
+    pub head-alone : m .repeats ≡ false → ((6 ≡ 3 + length (headOf m start count)) × (6 ≤ 18)) × (r1 ≡ laid d 3 (headOf m start count))
+    head-alone t = rw t ((refl, omega arith), e)
+
+-- 210H: the head, then two digits for each byte of the run
+module _ (m : Message) (k : Kind) (start count end at many : ℕ) (area : List ℕ) (ends : end ≡ 3 + length (headOf m start count)) (where-is : at ≡ placeOf k start)
+    (run : many ≡ count * k .unit) where
+  pub run-laid : (d r1 r2 : List ℕ) → 3 ≤ length d → r1 ≡ laid d 3 (headOf m start count) → r2 ≡ laid r1 end (digitsIn (take (at + many - at) (drop at area)))
+      → r2 ≡ laid d 3 (runText m k start count area)
+  unfolding runOf
+  run-laid d r1 r2 h e f =
+      f
+      ∙ rw (add-sub-cancel-left, e, where-is, run)
+      (laid-on d (headOf m start count) (digitsIn (take (count * k .unit) (drop (placeOf k start) area))) 3 end (sym ends) h)
+
+  pub length-run : placeOf k start + count * k .unit ≤ length area → length (runText m k start count area) ≡ end - 3 + 2 * many
+  unfolding runOf
+  length-run h =
+      let r = take (count * k .unit) (drop (placeOf k start) area) in
+      let n : length r ≡ count * k .unit = length-take-le (count * k .unit) (drop (placeOf k start) area) (simp length-drop (omega arith)) in
+      omega (arith, length-append (headOf m start count) (digitsIn r), length-digitsIn r)
 
 -- 208H: the ID, then a number
-pub count-laid : (d r1 r2 frame points : List ℕ) (n k : ℕ) → 6 ≤ length frame → 3 ≤ length d → k ≡ effectiveIn n points
-    → r1 ≡ laid d 3 (messageIn frame) → r2 ≡ laid r1 6 (digitsOf 3 k) → r2 ≡ laid d 3 (countText frame n points)
-count-laid d r1 r2 frame points n k h l q e f = f ∙ rw (e, q) (behind d frame (digitsOf 3 (effectiveIn n points)) h l)
+pub count-laid : (d r1 r2 points : List ℕ) (m : Message) (n k : ℕ) → 3 ≤ length d → k ≡ effectiveIn n points → r1 ≡ laid d 3 (idOf m) → r2 ≡ laid r1 6 (digitsOf 3 k)
+    → r2 ≡ laid d 3 (countText m n points)
+count-laid d r1 r2 points m n k h q e f = behind d r1 r2 (digitsOf 3 (effectiveIn n points)) m h e (f ∙ rw q)
 
 -- 212H: the ID, the pattern, then what each axis is
-pub axes-laid : (d r1 r2 r3 frame : List ℕ) (pattern : ℕ) (records : List AxisRecord) → 6 ≤ length frame → 3 ≤ length d
-    → r1 ≡ laid d 3 (messageIn frame) → r2 ≡ laid r1 6 (digitsOf 2 pattern) → r3 ≡ laid r2 8 (recordsDigits (axesOf pattern) records)
-    → r3 ≡ laid d 3 (axesText frame pattern records)
-axes-laid d r1 r2 r3 frame pattern records h l e f g =
-    let p = digitsOf 2 pattern in
-    let s = recordsDigits (axesOf pattern) records in
-    let n : 3 + length (messageIn frame ++ p) ≡ 8 = omega (arith, length-behind frame p h) in
-    g
-    ∙ ap (λ (x : List ℕ). laid x 8 s) (f ∙ ap (λ (x : List ℕ). laid x 6 p) e ∙ behind d frame p h l)
-    ∙ laid-on d (messageIn frame ++ p) s 3 8 n l
-    ∙ ap (laid d 3) (append-assoc (messageIn frame) p s)
+pub axes-laid : (d r1 r2 r3 : List ℕ) (m : Message) (pattern : ℕ) (records : List AxisRecord) → 3 ≤ length d → r1 ≡ laid d 3 (idOf m) → r2 ≡ laid r1 6 (digitsOf 2 pattern)
+    → r3 ≡ laid r2 8 (recordsDigits (axesOf pattern) records) → r3 ≡ laid d 3 (axesText m pattern records)
+axes-laid d r1 r2 r3 m pattern records h e f g =
+    g ∙ rw (behind d r1 r2 (digitsOf 2 pattern) m h e f) (laid-on d (idOf m ++ digitsOf 2 pattern) (recordsDigits (axesOf pattern) records) 3 8 refl h)
 
-pub length-axes : (frame : List ℕ) (pattern n : ℕ) (records : List AxisRecord) → 6 ≤ length frame → n ≡ length (axesOf pattern)
-    → length (axesText frame pattern records) ≡ 5 + 16 * n
-length-axes frame pattern n records h e =
-    let s = recordsDigits (axesOf pattern) records in
-    length-behind frame (digitsOf 2 pattern ++ s) h ∙ simp length-append (omega (arith, length-records (axesOf pattern) records))
+pub length-axes : (m : Message) (pattern n : ℕ) (records : List AxisRecord) → n ≡ length (axesOf pattern) → length (axesText m pattern records) ≡ 5 + 16 * n
+length-axes m pattern n records e = omega (arith, length-records (axesOf pattern) records)
 
 -- 209H: the ID, the list, and last the count between them
-pub list-laid : (d r1 r2 r3 frame points : List ℕ) (start count many : ℕ) → 6 ≤ length frame → 3 ≤ length d → 9 ≤ length r1 → r1 ≡ laid d 3 (messageIn frame)
-    → r2 ≡ laid r1 9 (joined (listed 1011 count start (drop ((start - 1) * 40) points)))
-    → many ≡ length (listed 1011 count start (drop ((start - 1) * 40) points)) → r3 ≡ laid r2 6 (digitsOf 3 many)
-    → r3 ≡ laid d 3 (listText frame start count points)
-list-laid d r1 r2 r3 frame points start count many h l k e f n g =
-    let ps = listed 1011 count start (drop ((start - 1) * 40) points) in
+pub list-laid : (d r1 r2 r3 slots : List ℕ) (m : Message) (start count many : ℕ) → 3 ≤ length d → 9 ≤ length r1 → r1 ≡ laid d 3 (idOf m)
+    → r2 ≡ laid r1 9 (joined (listed 1011 count start slots)) → many ≡ length (listed 1011 count start slots) → r3 ≡ laid r2 6 (digitsOf 3 many)
+    → r3 ≡ laid d 3 (listText m start count slots)
+list-laid d r1 r2 r3 slots m start count many h k e f n g =
+    let ps = listed 1011 count start slots in
     let w = digitsOf 3 (length ps) in
-    g
-    ∙ ap₂ (λ (x : List ℕ) (y : ℕ). laid x 6 (digitsOf 3 y)) f n
-    ∙ filled r1 w (joined ps) 6 9 refl k
-    ∙ ap (λ (x : List ℕ). laid x 6 (w ++ joined ps)) e
-    ∙ behind d frame (w ++ joined ps) h l
+    behind d r1 r3 (w ++ joined ps) m h e (g ∙ ap₂ (λ (x : List ℕ) (y : ℕ). laid x 6 (digitsOf 3 y)) f n ∙ filled r1 w (joined ps) 6 9 refl k)
 
-pub length-list : (frame points : List ℕ) (start count digits : ℕ) → 6 ≤ length frame
-    → digits ≡ length (joined (listed 1011 count start (drop ((start - 1) * 40) points))) → length (listText frame start count points) ≡ 6 + digits
-length-list frame points start count digits h e = length-behind frame _ h ∙ rw e (omega arith)
+pub length-list : (m : Message) (start count digits : ℕ) (slots : List ℕ) → digits ≡ length (joined (listed 1011 count start slots))
+    → length (listText m start count slots) ≡ 6 + digits
+length-list m start count digits slots e = rw e (omega arith)

@@ -1,24 +1,37 @@
 -- Document 01, "Each message": what a normal reply says after its station; source document 000, sections 4-3-2, 4-3-4, 4-3-5, 4-3-11 and 4-3-12.
-use Prim.Native.Nat.{ℕ, zero, suc, _+_, _-_, _*_}
+use Prim.Native.Nat.{ℕ, zero, suc, _-_}
 use mathlib.Core.Bool.{cond}
 use mathlib.Core.List.{List, [], _∷_, _++_}
 use lib.Dec.{leb, eqb}
-use lib.IntN.{pos}
-use lib.ListN.{length, take, drop, getD}
+use lib.ListN.{length, drop, getD}
 use mir.Syntax.{w32}
 use mir.Val.{ofZ}
 use Rattle.digits.specs.Digits.{digitsOf}
-use Rattle.frames.specs.Frame.{messageIn, contentIn}
-use Rattle.areas.specs.Kinds.{columnsOf, runOf}
-use Rattle.areas.specs.Columns.{digitsIn}
-use Rattle.points.specs.Units.{position}
+use Rattle.areas.specs.declared.kinds.Kind.{Kind}
+use Rattle.areas.specs.Kinds.{runOf}
+use Rattle.areas.specs.Pairs.{digitsIn}
+use Rattle.axes.specs.declared.AxisRecord.{AxisRecord}
+use Rattle.axes.specs.Records.{zeroRecord}
 use Rattle.points.specs.Axes.{axesOf}
 use Rattle.points.specs.Point.{pointIn, pointDigits, effectiveIn}
-use Rattle.queries.specs.declared.AxisRecord.{AxisRecord}
+use Rattle.messages.specs.declared.table.Message.{Message}
+
+-- the message ID, as it was read
+abbrev pub idOf : Message → List ℕ
+idOf m = digitsOf 3 (m .id)
+
+-- the ID and, where "the reply repeats these", program number 00, start and count, as they were read
+abbrev pub headOf : Message → ℕ → ℕ → List ℕ
+headOf m start count =
+    idOf m ++ cond (m .repeats) (digitsOf (m .program) 0 ++ (digitsOf (m .start) start ++ digitsOf (m .count) count)) []
+
+-- 200H: "ten bytes, returned unchanged"
+abbrev pub sameText : Message → List ℕ → List ℕ
+sameText m content = idOf m ++ content
 
 -- "208H counts slots with a non-zero pattern": its number in three digits (4-3-4)
-abbrev pub countText : List ℕ → ℕ → List ℕ → List ℕ
-countText frame n points = messageIn frame ++ digitsOf 3 (effectiveIn n points)
+abbrev pub countText : Message → ℕ → List ℕ → List ℕ
+countText m n points = idOf m ++ digitsOf 3 (effectiveIn n points)
 
 -- a listed point: its number in three digits, then its own digits (4-3-5)
 abbrev pub listing : ℕ → List ℕ → List ℕ
@@ -38,20 +51,14 @@ joined [] = []
 joined (s ∷ ss) = s ++ joined ss
 
 -- "within 1,024 bytes": thirteen of them are header, station, ID, count, SC, CR and LF; "and its count is the number listed"
-abbrev pub listText : List ℕ → ℕ → ℕ → List ℕ → List ℕ
-listText frame start count points =
-    messageIn frame
-    ++ (digitsOf 3 (length (listed 1011 count start (drop ((start - 1) * 40) points)))
-    ++ joined (listed 1011 count start (drop ((start - 1) * 40) points)))
+abbrev pub listText : Message → ℕ → ℕ → List ℕ → List ℕ
+listText m start count slots = idOf m ++ (digitsOf 3 (length (listed 1011 count start slots)) ++ joined (listed 1011 count start slots))
 
--- 210H: "The reply repeats these and adds two digits for each column."
-abbrev pub columnsText : List ℕ → ℕ → ℕ → List ℕ → List ℕ
-columnsText frame start count columns = messageIn frame ++ (contentIn frame ++ digitsIn (runOf columnsOf start count columns))
+-- 210H: "The reply repeats these and adds two digits for each column": for each byte of a run of any kind
+abbrev pub runText : Message → Kind → ℕ → ℕ → List ℕ → List ℕ
+runText m k start count area = headOf m start count ++ digitsIn (runOf k start count area)
 
 -- 212H, for each axis: "status 2, sensor 1, error code 3, encoder 2, position 8"
-abbrev pub zeroRecord : AxisRecord
-zeroRecord = record { status = 0; sensor = 0; error = 0; encoder = 0; position = position (pos 0) }
-
 abbrev pub recordDigits : AxisRecord → List ℕ
 recordDigits r =
     digitsOf 2 (r .status)
@@ -62,5 +69,5 @@ recordsDigits [] records = []
 recordsDigits (axis ∷ axes) records = recordDigits (getD records axis zeroRecord) ++ recordsDigits axes records
 
 -- the pattern "with unfitted axes removed, then per axis, lowest first"
-abbrev pub axesText : List ℕ → ℕ → List AxisRecord → List ℕ
-axesText frame pattern records = messageIn frame ++ (digitsOf 2 pattern ++ recordsDigits (axesOf pattern) records)
+abbrev pub axesText : Message → ℕ → List AxisRecord → List ℕ
+axesText m pattern records = idOf m ++ (digitsOf 2 pattern ++ recordsDigits (axesOf pattern) records)

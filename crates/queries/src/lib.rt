@@ -1,69 +1,106 @@
 // The replies to queries, laid into the lent reply area (document 01, "Each message").
-use areas::columns::put_digits;
+use areas::kinds::Kind;
+use areas::pairs::put_digits;
 use areas::runs::put_run;
+use axes::AxisRecord;
 use digits::put_number;
 use frames::replies::close_reply;
+use messages::table::Message;
 use points::axes::ones;
 use points::point::Point;
-use points::units::Position;
 use slots::count_effective;
 use slots::listing::put_point_digits;
 use slots::point_at;
 ghost use mathlib.Core.Path.{_≡_};
 ghost use mathlib.Core.List.{_++_};
-ghost use Prim.Native.Nat.{_+_, _-_, _*_, _≤_};
-ghost use lib.ListN.{length, take, drop};
+ghost use Prim.Native.Nat.{_+_, _*_, _≤_, _<_};
+ghost use lib.ListN.{length};
 ghost use Rattle.digits.specs.Digits.{digitsOf};
 ghost use Rattle.digits.specs.Laid.{laid};
+ghost use Rattle.areas.specs.Kinds.{sizeOf, placeOf};
 ghost use Rattle.points.specs.Axes.{axesOf};
 ghost use Rattle.points.specs.Point.{pointDigits};
-ghost use Rattle.queries.specs.Replies.{countText, listed, joined, listText, columnsText, recordDigits, recordsDigits, axesText};
+ghost use Rattle.messages.specs.Table.{Narrow};
+ghost use Rattle.queries.specs.Replies.{headOf, sameText, countText, listed, joined, listText, runText, recordDigits, recordsDigits, axesText};
 ghost use Rattle.queries.specs.Laws.{Replied};
 
-// What the motion board lends of one axis.
-pub struct AxisRecord {
-    pub status: u8,
-    pub sensor: u8,
-    pub error: u16,
-    pub encoder: u8,
-    pub position: Position,
+// Program number 00, start and count, each as long as the message has it; where they end.
+fn put_fields(reply: &mut [u8], m: Message, start: usize, count: usize) -> usize
+    requires { ⌜ Narrow m × (18 ≤ length (now reply)) ⌝ }
+    ensures { λ r. ⌜ r ≡ 6 + (m .program + (m .start + m .count)) ⌝ }
+    ensures { λ _. ⌜ now (reply .exit) ≡ laid (now (reply .entry)) 6
+        (digitsOf (m .program) 0 ++ (digitsOf (m .start) start ++ digitsOf (m .count) count)) ⌝ }
+{
+    let p = m.program;
+    let s = m.start;
+    let c = m.count;
+    put_number(reply, 6, p, 0);
+    put_number(reply, 6 + p, s, start as u64);
+    put_number(reply, 6 + p + s, c, count as u64);
+    6 + p + s + c
 }
 
-// So many bytes of the frame from its message ID on, said back.
-pub fn reply_same(reply: &mut [u8], station: u8, frame: &[u8], many: usize) -> usize
-    requires { ⌜ (many + 7 ≤ length (now reply)) × (3 + many ≤ length (now frame)) ⌝ }
-    ensures { λ r. ⌜ Replied (now (reply .entry)) (now (reply .exit)) r station (take many (drop 3 (now (frame .entry)))) ⌝ }
+// The ID and, where the reply repeats them, the fields; where they end.
+fn put_head(reply: &mut [u8], m: Message, start: usize, count: usize) -> usize
+    requires { ⌜ Narrow m × (18 ≤ length (now reply)) ⌝ }
+    ensures { λ r. ⌜ (r ≡ 3 + length (headOf m start count)) × (r ≤ 18) ⌝ }
+    ensures { λ _. ⌜ now (reply .exit) ≡ laid (now (reply .entry)) 3 (headOf m start count) ⌝ }
 {
-    put_run(reply, 3, &frame[3..3 + many]);
-    close_reply(reply, station, many)
+    put_number(reply, 3, 3, m.id as u64);
+    if m.repeats {
+        return put_fields(reply, m, start, count);
+    }
+    6
+}
+
+// What a write says: the ID, and the fields where they are repeated.
+pub fn reply_head(reply: &mut [u8], station: u8, m: Message, start: usize, count: usize) -> usize
+    requires { ⌜ Narrow m × (1024 ≤ length (now reply)) ⌝ }
+    ensures { λ r. ⌜ Replied (now (reply .entry)) (now (reply .exit)) r station (headOf m start count) ⌝ }
+{
+    let end = put_head(reply, m, start, count);
+    close_reply(reply, station, end - 3)
+}
+
+// 200H: the content said back.
+pub fn reply_same(reply: &mut [u8], station: u8, m: Message, content: &[u8]) -> usize
+    requires { ⌜ (1024 ≤ length (now reply)) × (length (now content) ≡ 10) ⌝ }
+    ensures { λ r. ⌜ Replied (now (reply .entry)) (now (reply .exit)) r station (sameText m (now (content .entry))) ⌝ }
+{
+    put_number(reply, 3, 3, m.id as u64);
+    put_run(reply, 6, content);
+    close_reply(reply, station, 13)
 }
 
 // 208H.
-pub fn reply_count(reply: &mut [u8], station: u8, frame: &[u8], points: &[u8], n: usize) -> usize
-    requires { ⌜ (13 ≤ length (now reply)) × (10 ≤ length (now frame)) × (length (now points) ≡ 40 * n) × (n ≤ 1500) ⌝ }
-    ensures { λ r. ⌜ Replied (now (reply .entry)) (now (reply .exit)) r station (countText (now (frame .entry)) n (now (points .entry))) ⌝ }
+pub fn reply_count(reply: &mut [u8], station: u8, m: Message, points: &[u8], n: usize) -> usize
+    requires { ⌜ (1024 ≤ length (now reply)) × (length (now points) ≡ 40 * n) × (n ≤ 1500) ⌝ }
+    ensures { λ r. ⌜ Replied (now (reply .entry)) (now (reply .exit)) r station (countText m n (now (points .entry))) ⌝ }
 {
-    put_run(reply, 3, &frame[3..6]);
+    put_number(reply, 3, 3, m.id as u64);
     put_number(reply, 6, 3, count_effective(points, n) as u64);
     close_reply(reply, station, 6)
 }
 
-// 210H: the ID and the content of seven digits, then the columns.
-pub fn reply_columns(
+// 210H, and every message that reads a run: the head, then two digits for each byte.
+pub fn reply_run(
     reply: &mut [u8],
     station: u8,
-    frame: &[u8],
-    columns: &[u8],
+    m: Message,
+    k: Kind,
+    area: &[u8],
     start: usize,
     count: usize,
 ) -> usize
-    requires { ⌜ (1024 ≤ length (now reply)) × (length (now frame) ≡ 17) × (300 ≤ start) × (start + count ≤ 1000) × (count ≤ 255) × (length (now columns) ≡ 700) ⌝ }
-    ensures { λ r. ⌜ Replied (now (reply .entry)) (now (reply .exit)) r station (columnsText (now (frame .entry)) start count (now (columns .entry))) ⌝ }
+    requires { ⌜ Narrow m × (1024 ≤ length (now reply)) × (k .first ≤ start) × (2 * (count * k .unit) ≤ 1000) ⌝ }
+    requires { ⌜ (length (now area) ≡ sizeOf k) × (placeOf k start + count * k .unit ≤ sizeOf k) × (sizeOf k < 65536) ⌝ }
+    ensures { λ r. ⌜ Replied (now (reply .entry)) (now (reply .exit)) r station (runText m k start count (now (area .entry))) ⌝ }
 {
-    let at = start - 300;
-    put_run(reply, 3, &frame[3..13]);
-    put_digits(reply, 13, &columns[at..at + count]);
-    close_reply(reply, station, 10 + 2 * count)
+    let end = put_head(reply, m, start, count);
+    let at = k.place(start);
+    let many = count * k.unit;
+    put_digits(reply, end, &area[at..at + many]);
+    close_reply(reply, station, end - 3 + 2 * many)
 }
 
 // One axis: sixteen digits.
@@ -98,14 +135,14 @@ fn put_records(reply: &mut [u8], at: usize, pattern: u8, records: [AxisRecord; 8
 pub fn reply_axes(
     reply: &mut [u8],
     station: u8,
-    frame: &[u8],
+    m: Message,
     pattern: u8,
     records: [AxisRecord; 8],
 ) -> usize
-    requires { ⌜ (1024 ≤ length (now reply)) × (10 ≤ length (now frame)) ⌝ }
-    ensures { λ r. ⌜ Replied (now (reply .entry)) (now (reply .exit)) r station (axesText (now (frame .entry)) pattern records) ⌝ }
+    requires { ⌜ 1024 ≤ length (now reply) ⌝ }
+    ensures { λ r. ⌜ Replied (now (reply .entry)) (now (reply .exit)) r station (axesText m pattern records) ⌝ }
 {
-    put_run(reply, 3, &frame[3..6]);
+    put_number(reply, 3, 3, m.id as u64);
     put_number(reply, 6, 2, pattern as u64);
     put_records(reply, 8, pattern, records);
     close_reply(reply, station, 5 + 16 * ones(pattern))
@@ -129,47 +166,48 @@ struct Listed {
     digits: usize,
 }
 
-// The effective points among so many from a number on, up to the first that has no room.
-fn put_listings(reply: &mut [u8], points: &[u8], start: usize, count: usize) -> Listed
-    requires { ⌜ (1024 ≤ length (now reply)) × (1 ≤ start) × (start + count ≤ 1501) × (40 * (start - 1 + count) ≤ length (now points)) ⌝ }
-    ensures { λ r. ⌜ (r .many ≡ length (listed 1011 count start (drop ((start - 1) * 40) (now (points .entry))))) × (r .digits ≡ length (joined (listed 1011 count start (drop ((start - 1) * 40) (now (points .entry)))))) × (r .digits ≤ 1011) ⌝ }
-    ensures { λ _. ⌜ now (reply .exit) ≡ laid (now (reply .entry)) 9 (joined (listed 1011 count start (drop ((start - 1) * 40) (now (points .entry))))) ⌝ }
+// The effective points among so many slots, the first one's number being start, up to the first that has no room.
+fn put_listings(reply: &mut [u8], slots: &[u8], start: usize, count: usize) -> Listed
+    requires { ⌜ (1024 ≤ length (now reply)) × (start + count ≤ 1501) × (40 * count ≤ length (now slots)) ⌝ }
+    ensures { λ r. ⌜ (r .many ≡ length (listed 1011 count start (now (slots .entry))))
+        × (r .digits ≡ length (joined (listed 1011 count start (now (slots .entry)))))
+        × (r .digits ≤ 1011) ⌝ }
+    ensures { λ _. ⌜ now (reply .exit) ≡ laid (now (reply .entry)) 9 (joined (listed 1011 count start (now (slots .entry)))) ⌝ }
 {
-    let end = start + count;
     let mut many = 0;
     let mut digits = 0;
-    let mut number = start;
-    while number < end {
-        let at = (number - 1) * Point::SLOT;
-        let pattern = points[at];
+    let mut i = 0;
+    while i < count {
+        let at = i * Point::SLOT;
+        let pattern = slots[at];
         if pattern != 0 {
             let size = 17 + 8 * ones(pattern);
             if size > ROOM - digits {
                 break;
             }
-            put_listing(reply, 9 + digits, number, point_at(points, at));
+            put_listing(reply, 9 + digits, start + i, point_at(slots, at));
             many += 1;
             digits += size;
         }
-        number += 1;
+        i += 1;
     }
     Listed { many, digits }
 }
 
-// 209H: the effective points among so many from a number on, as many leading ones as keep the reply within 1,024 bytes.
+// 209H: the effective points among so many slots from a number on, as many leading ones as keep the reply within 1,024 bytes.
 pub fn reply_list(
     reply: &mut [u8],
     station: u8,
-    frame: &[u8],
-    points: &[u8],
+    m: Message,
+    slots: &[u8],
     start: usize,
     count: usize,
 ) -> usize
-    requires { ⌜ (1024 ≤ length (now reply)) × (10 ≤ length (now frame)) × (1 ≤ start) × (start + count ≤ 1501) × (40 * (start - 1 + count) ≤ length (now points)) ⌝ }
-    ensures { λ r. ⌜ Replied (now (reply .entry)) (now (reply .exit)) r station (listText (now (frame .entry)) start count (now (points .entry))) ⌝ }
+    requires { ⌜ (1024 ≤ length (now reply)) × (start + count ≤ 1501) × (40 * count ≤ length (now slots)) ⌝ }
+    ensures { λ r. ⌜ Replied (now (reply .entry)) (now (reply .exit)) r station (listText m start count (now (slots .entry))) ⌝ }
 {
-    put_run(reply, 3, &frame[3..6]);
-    let list = put_listings(reply, points, start, count);
+    put_number(reply, 3, 3, m.id as u64);
+    let list = put_listings(reply, slots, start, count);
     put_number(reply, 6, 3, list.many as u64);
     close_reply(reply, station, 6 + list.digits)
 }

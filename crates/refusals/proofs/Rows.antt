@@ -1,56 +1,222 @@
--- The rows of the table that each call tests, once and for all.
-use Prim.Native.Nat.{ℕ}
+-- The rows that each call tests, as choices over truth values.
+use Prim.Native.Nat.{ℕ, _+_, _≤_, _<_}
 use mathlib.Core.Path.{_≡_, refl, sym, ap, _∙_}
 use mathlib.Core.Bool.{Bool, true, false, cond, not}
+use mathlib.Core.List.{List}
+use native.Mathlib.Omega.{arith}
 use lib.Dec.{ltb, eqb}
 use lib.ListN.{length}
-use mathlib.Core.List.{List}
+use borrow.Author.Tests.{lt-ltb, le-ltb, eq-eqb, ne-eqb}
+use Rattle.digits.proofs.Bools.{was-not}
 use Rattle.frames.specs.Frame.{contentIn, shaped, sumPasses, stationPasses}
-use Rattle.messages.specs.Layout.{messageOf, isUnknown}
-use Rattle.messages.specs.Asked.{notDigits, wrongLength, wrongProgram, countZero, notHeld, wrongPattern}
-use Rattle.refusals.specs.Call.{Call, heldIn}
-use Rattle.refusals.specs.Refusals.{pointsFit, journalFits, axesFit, table, refusalOf, silentOf, heardOf, backRefusalOf}
+use Rattle.messages.specs.Rows.{firstOf}
+use Rattle.messages.specs.Table.{messageOf}
+use Rattle.messages.specs.Asked.{askedRows}
+use Rattle.axes.specs.declared.Axes.{Axes}
+use Rattle.calls.specs.declared.Settings.{Settings}
+use Rattle.calls.specs.declared.Kept.{Kept}
+use Rattle.calls.specs.declared.Lengths.{Lengths}
+use Rattle.calls.specs.Calls.{Call, lengthsOf, heldIn}
+use Rattle.refusals.specs.Refusals.{pointsFit, journalFits, axesFit, areaRows, frameRows, silentRows, silentOf, refusalOf, backRows}
 
-abbrev pub three : Bool → Bool → Bool → ℕ → ℕ
-three p q r k = cond p 6 (cond q 7 (cond r 8 k))
+-- three rows, and what comes behind them
+abbrev pub three : ℕ → Bool → Bool → Bool → ℕ → ℕ
+three n p q r k = cond p n (cond q (n + 1) (cond r (n + 2) k))
 
-abbrev pub five : Bool → Bool → Bool → Bool → Bool → ℕ → ℕ
-five p q r s t k = cond p 1 (cond q 2 (cond r 3 (cond s 4 (cond t 5 k))))
+pub three-given : (n : ℕ) (p q r : Bool) (k : ℕ) → (three n p q r 0 ≡ 0 → ⊥) → three n p q r k ≡ three n p q r 0
+three-given n true q r k h = refl
+three-given n false true r k h = refl
+three-given n false false true k h = refl
+three-given n false false false k h = absurd (h refl)
 
-abbrev pub seven : Bool → Bool → Bool → Bool → Bool → Bool → Bool → ℕ
-seven p q r s t u v = cond p 101 (cond q 102 (cond r 103 (cond s 104 (cond t 105 (cond u 106 (cond v 107 0))))))
+pub three-passed : (n : ℕ) (p q r : Bool) (k : ℕ) → 1 ≤ n → three n p q r k ≡ 0 → (p ≡ false) × (q ≡ false) × (r ≡ false) × (k ≡ 0)
+three-passed n true q r k h e = absurd (omega arith)
+three-passed n false true r k h e = absurd (omega arith)
+three-passed n false false true k h e = absurd (omega arith)
+three-passed n false false false k h e = (refl, refl, refl, e)
 
-abbrev pub ownOf : Call → ℕ → ℕ
-ownOf c k = three (not (shaped (c .frame))) (not (sumPasses (c .frame))) (not (stationPasses (c .station) (c .frame))) k
+module _ (lengths : Lengths) (journal : List ℕ) (kept : Kept) where
+  abbrev pub areaNumber : ℕ → ℕ
+  areaNumber k = three 2 (not (pointsFit (lengths .points))) (not (eqb (lengths .columns) 700)) (not (journalFits (heldIn lengths) journal (kept .used))) k
 
-abbrev pub areaOf : Call → ℕ → ℕ
-areaOf c k =
-    five (ltb (length (c .reply)) 1024) (not (pointsFit (c .points))) (not (eqb (length (c .columns)) 700))
-    (not (journalFits (heldIn (c .points)) (c .journal) (c .used)))
-    (not (axesFit (c .eight) (c .records) (c .fitted)))
-    k
+  pub area-rows : firstOf (areaRows lengths journal kept) ≡ areaNumber 0
+  unfolding areaRows
+  area-rows = refl
 
-abbrev pub saidOf : Call → ℕ
-saidOf c =
-    seven (isUnknown (messageOf (c .frame))) (notDigits (messageOf (c .frame)) (contentIn (c .frame)))
-    (wrongLength (messageOf (c .frame)) (contentIn (c .frame)))
-    (wrongProgram (messageOf (c .frame)) (contentIn (c .frame)))
-    (countZero (messageOf (c .frame)) (contentIn (c .frame)))
-    (notHeld (heldIn (c .points)) (messageOf (c .frame)) (contentIn (c .frame)))
-    (wrongPattern (c .fitted) (messageOf (c .frame)) (contentIn (c .frame)))
+  pub back-rows : firstOf (backRows lengths journal kept) ≡ areaNumber (cond (eqb (kept .used) 0) 9 0)
+  unfolding backRows areaRows
+  back-rows = refl
 
-pub heard-rows : (c : Call) → heardOf c ≡ ownOf c 0
-unfolding heardOf table
-heard-rows c = refl
+  -- what comes behind them is looked at just where none of them is given
+  pub area-given : (k : ℕ) → (firstOf (areaRows lengths journal kept) ≡ 0 → ⊥) → firstOf (areaRows lengths journal kept) ≡ areaNumber k
+  area-given k h =
+      area-rows
+      ∙ sym
+      (three-given 2 (not (pointsFit (lengths .points))) (not (eqb (lengths .columns) 700)) (not (journalFits (heldIn lengths) journal (kept .used))) k
+      (λ e. h (area-rows ∙ e)))
 
-pub silent-rows : (c : Call) → silentOf c ≡ areaOf c (ownOf c 0)
-unfolding silentOf table
-silent-rows c = refl
+  pub record AreasPass : Type 0 where
+    pub points : pointsFit (lengths .points) ≡ true
+    pub columns : eqb (lengths .columns) 700 ≡ true
+    pub journal-fits : journalFits (heldIn lengths) journal (kept .used) ≡ true
 
-pub refusal-rows : (c : Call) → refusalOf c ≡ areaOf c (ownOf c (saidOf c))
-unfolding refusalOf table
-refusal-rows c = refl
+  pub areas-pass : {k : ℕ} → areaNumber k ≡ 0 → AreasPass × (k ≡ 0)
+  areas-pass {k} e =
+      let h =
+      three-passed 2 (not (pointsFit (lengths .points))) (not (eqb (lengths .columns) 700)) (not (journalFits (heldIn lengths) journal (kept .used))) k
+      (omega arith)
+      e in
+      (record { points = was-not (h .0); columns = was-not (h .1); journal-fits = was-not (h .2) }, h .3)
 
-pub back-rows : (c : Call) → backRefusalOf c ≡ cond (not (pointsFit (c .points))) 2 (cond (not (eqb (length (c .columns)) 700)) 3 (cond (not (journalFits (heldIn (c .points)) (c .journal) (c .used))) 4 (cond (eqb (c .used) 0) 9 0)))
-unfolding backRefusalOf table
-back-rows c = refl
+  pub past-areas : AreasPass → (k : ℕ) → areaNumber k ≡ k
+  past-areas p k = rw (p .points, p .columns, p .journal-fits)
+
+module _ (station : ℕ) (frame : List ℕ) where
+  abbrev pub frameNumber : ℕ → ℕ
+  frameNumber k = three 6 (not (shaped frame)) (not (sumPasses frame)) (not (stationPasses station frame)) k
+
+  pub frame-rows : firstOf (frameRows station frame) ≡ frameNumber 0
+  unfolding frameRows
+  frame-rows = refl
+
+module _ (reply : ℕ) (frame : List ℕ) (axes : Axes) (settings : Settings) (lengths : Lengths) (journal : List ℕ) (kept : Kept) where
+  abbrev pub silentNumber : ℕ → ℕ
+  silentNumber k =
+      cond (ltb reply 1024) 1
+      (areaNumber lengths journal kept (cond (not (axesFit axes (settings .fitted))) 5 (frameNumber (settings .station) frame k)))
+
+  pub silent-rows : firstOf (silentRows reply frame axes settings lengths journal kept) ≡ silentNumber 0
+  unfolding silentRows areaRows frameRows
+  silent-rows = refl
+
+  -- no refusal without a reply
+  pub record Passed : Type 0 where
+    pub reply-long : ltb reply 1024 ≡ false
+    pub areas : AreasPass lengths journal kept
+    pub axes-fit : axesFit axes (settings .fitted) ≡ true
+    pub shape : shaped frame ≡ true
+    pub sum : sumPasses frame ≡ true
+    pub station : stationPasses (settings .station) frame ≡ true
+
+  pub past-silent : Passed → (k : ℕ) → silentNumber k ≡ k
+  past-silent p k = rw (p .reply-long, past-areas lengths journal kept (p .areas) (cond (not (axesFit axes (settings .fitted))) 5 (frameNumber (settings .station) frame k)), p .axes-fit, p .shape, p .sum, p .station)
+
+  one-passed : (b : Bool) (n k : ℕ) → 1 ≤ n → cond b n k ≡ 0 → (b ≡ false) × (k ≡ 0)
+  one-passed true n k h e = absurd (omega arith)
+  one-passed false n k h e = (refl, e)
+
+  pub passed : {k : ℕ} → silentNumber k ≡ 0 → Passed × (k ≡ 0)
+  passed {k} e =
+      let a = one-passed (ltb reply 1024) 1 (areaNumber lengths journal kept (cond (not (axesFit axes (settings .fitted))) 5 (frameNumber (settings .station) frame k))) (omega arith) e in
+      let b = areas-pass lengths journal kept (a .1) in
+      let c = one-passed (not (axesFit axes (settings .fitted))) 5 (frameNumber (settings .station) frame k) (omega arith) (b .1) in
+      let d = three-passed 6 (not (shaped frame)) (not (sumPasses frame)) (not (stationPasses (settings .station) frame)) k (omega arith) (c .1) in
+      (record { reply-long = a .0; areas = b .0; axes-fit = was-not (c .0); shape = was-not (d .0); sum = was-not (d .1); station = was-not (d .2) }, d .3)
+
+  -- where one is given it is below 101, and what comes behind is not looked at
+  pub silent-given : (k : ℕ) → (silentNumber 0 ≡ 0 → ⊥) → (silentNumber k ≡ silentNumber 0) × (silentNumber 0 < 101)
+  silent-given k h =
+      go (ltb reply 1024) (not (pointsFit (lengths .points))) (not (eqb (lengths .columns) 700)) (not (journalFits (heldIn lengths) journal (kept .used)))
+      (not (axesFit axes (settings .fitted)))
+      (not (shaped frame))
+      (not (sumPasses frame))
+      (not (stationPasses (settings .station) frame))
+      h
+    where
+      go : (o p q r s t u v : Bool) → (cond o 1 (three 2 p q r (cond s 5 (three 6 t u v 0))) ≡ 0 → ⊥)
+          → (cond o 1 (three 2 p q r (cond s 5 (three 6 t u v k))) ≡ cond o 1 (three 2 p q r (cond s 5 (three 6 t u v 0)))) × (cond o 1 (three 2 p q r (cond s 5 (three 6 t u v 0))) < 101)
+      go true p q r s t u v n = (refl, omega arith)
+      go false true q r s t u v n = (refl, omega arith)
+      go false false true r s t u v n = (refl, omega arith)
+      go false false false true s t u v n = (refl, omega arith)
+      go false false false false true t u v n = (refl, omega arith)
+      go false false false false false true u v n = (refl, omega arith)
+      go false false false false false false true v n = (refl, omega arith)
+      go false false false false false false false true n = (refl, omega arith)
+      go false false false false false false false false n = absurd (n refl)
+
+-- a call's rows
+abbrev pub numberOf : Call → ℕ → ℕ
+numberOf c = silentNumber (length (c .sent .reply)) (c .sent .frame) (c .sent .axes) (c .sent .settings) (lengthsOf (c .areas)) (c .areas .journal) (c .areas .kept)
+
+abbrev pub CallPassed : Call → Type 0
+CallPassed c = Passed (length (c .sent .reply)) (c .sent .frame) (c .sent .axes) (c .sent .settings) (lengthsOf (c .areas)) (c .areas .journal) (c .areas .kept)
+
+pub silent-is : (c : Call) → silentOf c ≡ numberOf c 0
+unfolding silentOf silentRows areaRows frameRows
+silent-is c = refl
+
+pub refusal-is : (c : Call)
+    → refusalOf c ≡ numberOf c (firstOf (askedRows (heldIn (lengthsOf (c .areas))) (c .sent .settings .fitted) (messageOf (c .sent .frame)) (contentIn (c .sent .frame))))
+unfolding refusalOf silentRows areaRows frameRows
+refusal-is c = refl
+
+pub call-passed : (c : Call) → silentOf c ≡ 0 → CallPassed c
+call-passed c e =
+    passed (length (c .sent .reply)) (c .sent .frame) (c .sent .axes) (c .sent .settings) (lengthsOf (c .areas)) (c .areas .journal) (c .areas .kept)
+    (sym (silent-is c) ∙ e)
+    .0
+
+-- each return of the tests of the areas
+module _ (l : Lengths) (j : List ℕ) (kept : Kept) where
+  pub area-2 : pointsFit (l .points) ≡ false → 2 ≡ firstOf (areaRows l j kept)
+  area-2 e = sym (area-rows l j kept ∙ rw e)
+
+  module _ (e : pointsFit (l .points) ≡ true) where
+    pub area-3 : (l .columns ≡ 700 → ⊥) → 3 ≡ firstOf (areaRows l j kept)
+    area-3 f = sym (area-rows l j kept ∙ rw (e, ne-eqb _ _ f))
+
+    module _ (f : l .columns ≡ 700) where
+      pub area-4 : journalFits (heldIn l) j (kept .used) ≡ false → 4 ≡ firstOf (areaRows l j kept)
+      area-4 g = sym (area-rows l j kept ∙ rw (e, eq-eqb _ _ f, g))
+
+      pub area-0 : journalFits (heldIn l) j (kept .used) ≡ true → 0 ≡ firstOf (areaRows l j kept)
+      area-0 g = sym (area-rows l j kept ∙ rw (e, eq-eqb _ _ f, g))
+
+  -- no area is refused: what comes behind is looked at
+  area-past : firstOf (areaRows l j kept) ≡ 0 → (k : ℕ) → areaNumber l j kept k ≡ k
+  area-past e k = past-areas l j kept (areas-pass l j kept (sym (area-rows l j kept) ∙ e) .0) k
+
+  pub back-area : {n : ℕ} → n ≡ firstOf (areaRows l j kept) → (n ≡ 0 → ⊥) → n ≡ firstOf (backRows l j kept)
+  back-area e f = e ∙ area-given l j kept _ (λ z. f (e ∙ z)) ∙ sym (back-rows l j kept)
+
+  pub back-9 : firstOf (areaRows l j kept) ≡ 0 → kept .used ≡ 0 → 9 ≡ firstOf (backRows l j kept)
+  back-9 e u = sym (back-rows l j kept ∙ area-past e (cond (eqb (kept .used) 0) 9 0) ∙ rw (eq-eqb _ _ u))
+
+  pub back-0 : firstOf (areaRows l j kept) ≡ 0 → (kept .used ≡ 0 → ⊥) → 0 ≡ firstOf (backRows l j kept)
+  back-0 e u = sym (back-rows l j kept ∙ area-past e (cond (eqb (kept .used) 0) 9 0) ∙ rw (ne-eqb _ _ u))
+
+  -- each return of a frame's tests
+  module _ (reply : ℕ) (frame : List ℕ) (axes : Axes) (settings : Settings) where
+    pub silent-1 : reply < 1024 → 1 ≡ firstOf (silentRows reply frame axes settings l j kept)
+    silent-1 h = sym (silent-rows reply frame axes settings l j kept ∙ rw (lt-ltb _ _ h))
+
+    module _ (h : 1024 ≤ reply) where
+      behind : (k : ℕ) → areaNumber l j kept (cond (not (axesFit axes (settings .fitted))) 5 (frameNumber (settings .station) frame 0)) ≡ k → k ≡ firstOf (silentRows reply frame axes settings l j kept)
+      behind k e = sym (silent-rows reply frame axes settings l j kept ∙ rw (le-ltb _ _ h) e)
+
+      pub silent-area : {n : ℕ} → n ≡ firstOf (areaRows l j kept) → (n ≡ 0 → ⊥) → n ≡ firstOf (silentRows reply frame axes settings l j kept)
+      silent-area {n} e f = behind n (sym (e ∙ area-given l j kept _ (λ z. f (e ∙ z))))
+
+      module _ (e : firstOf (areaRows l j kept) ≡ 0) where
+        pub silent-5 : axesFit axes (settings .fitted) ≡ false → 5 ≡ firstOf (silentRows reply frame axes settings l j kept)
+        silent-5 f = behind 5 (area-past e _ ∙ rw f)
+
+        pub silent-frame : axesFit axes (settings .fitted) ≡ true → {n : ℕ} → n ≡ firstOf (frameRows (settings .station) frame) → n ≡ firstOf (silentRows reply frame axes settings l j kept)
+        silent-frame f {n} g = behind n (area-past e _ ∙ rw f (sym (g ∙ frame-rows (settings .station) frame)))
+
+-- each return of the frame's own tests
+module _ (station : ℕ) (frame : List ℕ) where
+  pub frame-6 : shaped frame ≡ false → 6 ≡ firstOf (frameRows station frame)
+  frame-6 e = sym (frame-rows station frame ∙ rw e)
+
+  module _ (e : shaped frame ≡ true) where
+    pub frame-7 : sumPasses frame ≡ false → 7 ≡ firstOf (frameRows station frame)
+    frame-7 f = sym (frame-rows station frame ∙ rw (e, f))
+
+    module _ (f : sumPasses frame ≡ true) where
+      pub frame-8 : stationPasses station frame ≡ false → 8 ≡ firstOf (frameRows station frame)
+      frame-8 g = sym (frame-rows station frame ∙ rw (e, f, g))
+
+      pub frame-0 : stationPasses station frame ≡ true → 0 ≡ firstOf (frameRows station frame)
+      frame-0 g = sym (frame-rows station frame ∙ rw (e, f, g))

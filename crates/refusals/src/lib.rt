@@ -1,42 +1,39 @@
 // The tests behind the refusals without a reply, and the step back's (document 01, "Refusal numbers, in the order tested").
+use areas::kinds::Held;
+use axes::Axes;
+use axes::AxisRecord;
+use calls::Kept;
+use calls::Lengths;
+use calls::Settings;
 use frames::checks::is_ours;
 use frames::checks::is_shaped;
 use frames::checks::passes_sum;
 use journal::is_whole;
-use lent::Axes;
 use points::point::Point;
-use queries::AxisRecord;
 ghost use mathlib.Core.Path.{_≡_};
-ghost use Prim.Native.Nat.{_≤_};
-ghost use Rattle.refusals.specs.Refusals.{pointsFit, journalFits, recordsFit, axesFit, silentOf, heardOf, backRefusalOf};
-ghost use Rattle.refusals.specs.Call.{callOf, frameCall, backCall};
-
-// The board's settings.
-pub struct Settings {
-    pub station: u8,
-    pub fitted: u8,
-}
+ghost use Rattle.areas.specs.Kinds.{Sound};
+ghost use Rattle.messages.specs.Rows.{firstOf};
+ghost use Rattle.refusals.specs.Refusals.{pointsFit, journalFits, recordsFit, axesFit, areaRows, frameRows, silentRows, backRows};
 
 // Refusal 2, passed: a multiple of 40 from 40 to 60,000.
-fn fits_points(points: &[u8]) -> bool
-    ensures { λ r. ⌜ r ≡ pointsFit (now (points .entry)) ⌝ }
+fn fits_points(points: usize) -> bool
+    ensures { λ r. ⌜ r ≡ pointsFit points ⌝ }
 {
-    let n = points.len();
-    if n % Point::SLOT != 0 {
+    if points % Point::SLOT != 0 {
         return false;
     }
-    if n < Point::SLOT {
+    if points < Point::SLOT {
         return false;
     }
-    n <= 60000
+    points <= 60000
 }
 
 // Refusal 4, passed: the journal's length, the used length, and whole well-formed entries.
-fn fits_journal(journal: &[u8], used: usize, n: usize) -> bool
-    requires { ⌜ n ≤ 1500 ⌝ }
-    ensures { λ r. ⌜ r ≡ journalFits n (now (journal .entry)) used ⌝ }
+fn fits_journal(journal: &[u8], used: usize, held: Held) -> bool
+    requires { ⌜ Sound held ⌝ }
+    ensures { λ r. ⌜ r ≡ journalFits held (now (journal .entry)) used ⌝ }
 {
-    if journal.len() < 40 * n + 300 {
+    if journal.len() < 40 * held.points + 300 {
         return false;
     }
     if journal.len() > 65536 {
@@ -45,7 +42,7 @@ fn fits_journal(journal: &[u8], used: usize, n: usize) -> bool
     if used > journal.len() {
         return false;
     }
-    is_whole(&journal[..used], n)
+    is_whole(&journal[..used], held)
 }
 
 fn fits_records(records: [AxisRecord; 8]) -> bool
@@ -67,7 +64,7 @@ fn fits_records(records: [AxisRecord; 8]) -> bool
 
 // Refusal 5, passed: eight records, no sensor or error code too large, a fitted axis.
 fn fits_axes(axes: Axes, fitted: u8) -> bool
-    ensures { λ r. ⌜ r ≡ axesFit (axes .eight) (axes .records) fitted ⌝ }
+    ensures { λ r. ⌜ r ≡ axesFit axes fitted ⌝ }
 {
     let eight = axes.eight;
     let records = axes.records;
@@ -80,42 +77,25 @@ fn fits_axes(axes: Axes, fitted: u8) -> bool
     fitted != 0
 }
 
-// The refusal without a reply, 1 to 8, or 0.
-pub fn silent(
-    frame: &[u8],
-    points: &[u8],
-    columns: &[u8],
-    journal: &[u8],
-    used: usize,
-    axes: Axes,
-    settings: Settings,
-    reply: &[u8],
-) -> u16
-    ensures { λ r. ⌜ r ≡ silentOf (callOf (now (frame .entry)) (now (points .entry)) (now (columns .entry)) (now (journal .entry)) used axes settings (now (reply .entry))) ⌝ }
+// Tests 2, 3 and 4, of a frame and of a step back: the refusal, or 0.
+fn area_refusal(lengths: Lengths, journal: &[u8], kept: Kept) -> u16
+    ensures { λ r. ⌜ r ≡ firstOf (areaRows lengths (now (journal .entry)) kept) ⌝ }
 {
-    let station = settings.station;
-    let fitted = settings.fitted;
-    if reply.len() < 1024 {
-        return 1;
-    }
-    if !fits_points(points) {
+    if !fits_points(lengths.points) {
         return 2;
     }
-    if columns.len() != 700 {
+    if lengths.columns != 700 {
         return 3;
     }
-    if !fits_journal(journal, used, points.len() / Point::SLOT) {
+    if !fits_journal(journal, kept.used, Held::by(lengths.points)) {
         return 4;
     }
-    if !fits_axes(axes, fitted) {
-        return 5;
-    }
-    heard(frame, station)
+    0
 }
 
-// Tests 6, 7 and 8.
-fn heard(frame: &[u8], station: u8) -> u16
-    ensures { λ r. ⌜ r ≡ heardOf (frameCall (now (frame .entry)) station) ⌝ }
+// Tests 6, 7 and 8: the refusal, or 0.
+fn frame_refusal(frame: &[u8], station: u8) -> u16
+    ensures { λ r. ⌜ r ≡ firstOf (frameRows station (now (frame .entry))) ⌝ }
 {
     if !is_shaped(frame) {
         return 6;
@@ -129,20 +109,40 @@ fn heard(frame: &[u8], station: u8) -> u16
     0
 }
 
-// Tests 2, 3, 4, then 9.
-pub fn back_refusal(points: &[u8], columns: &[u8], journal: &[u8], used: usize) -> u16
-    ensures { λ r. ⌜ r ≡ backRefusalOf (backCall (now (points .entry)) (now (columns .entry)) (now (journal .entry)) used) ⌝ }
+// The refusal without a reply, 1 to 8, or 0, with a reply area of so many bytes.
+pub fn silent(
+    reply: usize,
+    frame: &[u8],
+    axes: Axes,
+    settings: Settings,
+    lengths: Lengths,
+    journal: &[u8],
+    kept: Kept,
+) -> u16
+    ensures { λ r. ⌜ r ≡ firstOf (silentRows reply (now (frame .entry)) axes settings lengths (now (journal .entry)) kept) ⌝ }
 {
-    if !fits_points(points) {
-        return 2;
+    if reply < 1024 {
+        return 1;
     }
-    if columns.len() != 700 {
-        return 3;
+    let number = area_refusal(lengths, journal, kept);
+    if number != 0 {
+        return number;
     }
-    if !fits_journal(journal, used, points.len() / Point::SLOT) {
-        return 4;
+    if !fits_axes(axes, settings.fitted) {
+        return 5;
     }
-    if used == 0 {
+    frame_refusal(frame, settings.station)
+}
+
+// The step back's refusal: 2, 3, 4, then 9, or 0.
+pub fn back_refusal(lengths: Lengths, journal: &[u8], kept: Kept) -> u16
+    ensures { λ r. ⌜ r ≡ firstOf (backRows lengths (now (journal .entry)) kept) ⌝ }
+{
+    let number = area_refusal(lengths, journal, kept);
+    if number != 0 {
+        return number;
+    }
+    if kept.used == 0 {
         return 9;
     }
     0

@@ -1,4 +1,8 @@
 // Points in their area, a slot of 40 bytes each, and listed as digits (document 01, "The areas" and "Each message", 208H, 209H and 244H).
+use areas::bytes::four_at;
+use areas::bytes::put_four;
+use areas::bytes::put_two;
+use areas::bytes::two_at;
 use points::point::Point;
 use points::reading::point_length;
 use points::reading::read_point;
@@ -7,33 +11,14 @@ use points::units::Position;
 use points::units::Speed;
 ghost use mathlib.Core.Path.{_≡_};
 ghost use mathlib.Core.Bool.{true};
-ghost use mathlib.Core.List.{[], _∷_, _++_};
-ghost use Prim.Native.Nat.{_+_, _*_, _/_, _≤_, _<_};
+ghost use mathlib.Core.List.{[], _∷_};
+ghost use Prim.Native.Nat.{_+_, _*_, _≤_};
 ghost use lib.ListN.{length, drop};
 ghost use Rattle.digits.specs.Digits.{allDigits};
 ghost use Rattle.digits.specs.Laid.{laid};
-ghost use Rattle.areas.specs.Bytes.{twoOf, fourOf, twoAt, fourAt};
 ghost use Rattle.points.specs.Point.{fillsOf, positionBytes, slotOf, slotsOf, positionsIn, pointIn, effectiveIn};
 
 pub mod listing; // a point's digits
-
-fn put_two(area: &mut [u8], at: usize, x: u16)
-    requires { ⌜ at + 2 ≤ length (now area) ⌝ }
-    ensures { λ _. ⌜ now (area .exit) ≡ laid (now (area .entry)) at (twoOf x) ⌝ }
-{
-    area[at] = (x / 256) as u8;
-    area[at + 1] = (x % 256) as u8;
-}
-
-fn put_four(area: &mut [u8], at: usize, x: u32)
-    requires { ⌜ at + 4 ≤ length (now area) ⌝ }
-    ensures { λ _. ⌜ now (area .exit) ≡ laid (now (area .entry)) at (fourOf x) ⌝ }
-{
-    area[at] = (x / 16777216) as u8;
-    area[at + 1] = (x / 65536 % 256) as u8;
-    area[at + 2] = (x / 256 % 256) as u8;
-    area[at + 3] = (x % 256) as u8;
-}
 
 // The pattern and a zero byte.
 fn put_pattern(area: &mut [u8], at: usize, pattern: u8)
@@ -86,26 +71,6 @@ pub fn lay_points(area: &mut [u8], at: usize, digits: &[u8], count: usize)
         from += point_length(&digits[from..]);
         i += 1;
     }
-}
-
-fn wide(b: u8) -> u32
-    ensures { λ r. ⌜ (r ≡ b) × (r < 256) ⌝ }
-{
-    b as u32
-}
-
-pub fn two_at(s: &[u8], at: usize) -> u16
-    requires { ⌜ at + 1 < length (now s) ⌝ }
-    ensures { λ r. ⌜ r ≡ twoAt (now (s .entry)) at ⌝ }
-{
-    (wide(s[at]) * 256 + wide(s[at + 1])) as u16
-}
-
-pub fn four_at(s: &[u8], at: usize) -> u32
-    requires { ⌜ at + 3 < length (now s) ⌝ }
-    ensures { λ r. ⌜ r ≡ fourAt (now (s .entry)) at ⌝ }
-{
-    wide(s[at]) * 16777216 + wide(s[at + 1]) * 65536 + wide(s[at + 2]) * 256 + wide(s[at + 3])
 }
 
 // The eight positions that stand at a place.

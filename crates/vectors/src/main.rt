@@ -1,14 +1,15 @@
 // Plays the second program's cases (second/README.md, "Vectors"), and writes a line for each call.
 use axes::read_axes;
+use calls::Kept;
+use calls::Settings;
+use digits::wide;
 use finder::Found;
 use finder::find;
 use io::print_decimal;
 use libc::STDIN_FILENO;
 use libc::STDOUT_FILENO;
-use link::Kept;
 use link::answer;
 use link::step_back;
-use refusals::Settings;
 ghost use mathlib.Core.Path.{_≡_};
 ghost use Prim.Native.Nat.{_+_, _≤_, _<_};
 ghost use lib.ListN.{length};
@@ -31,12 +32,6 @@ fn byte_at(rest: &[u8], at: usize) -> u8 {
         return rest[at];
     }
     0
-}
-
-fn wide(b: u8) -> u64
-    ensures { λ r. ⌜ r < 256 ⌝ }
-{
-    b as u64
 }
 
 // A number of two bytes, high byte first.

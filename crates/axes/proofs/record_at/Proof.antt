@@ -8,53 +8,37 @@ use Rattle.axes.specs.Axes.{recordIn}
 use borrow.Author.Needs.{needs}
 use Rattle.axes.proofs.record_at.Statement.{statement}
 use Rattle.axes.proofs.record_at.Tie as tie
-use Rattle.axes.proofs.record_at.Reads as reads
-use Rattle.axes.proofs.record_at.Lts as lts
-use Rattle.slots.proofs.four_at.Reads as four-at-reads
-use Rattle.slots.proofs.two_at.Reads as two-at-reads
-use Rattle.points.proofs.units.Position.of.Reads as of-reads
 
--- src/lib.rt:30:18
 shared-slice-read-status : tie.Need-shared-slice-read-status
 shared-slice-read-status c = search needs
 
--- src/lib.rt:31:24
 add-sensor : tie.Need-add-sensor
 add-sensor c = search needs
 
--- src/lib.rt:31:18
 shared-slice-read-sensor : tie.Need-shared-slice-read-sensor
 shared-slice-read-sensor c = search needs
 
--- src/lib.rt:32:31
 add-two-at : tie.Need-add-two-at
 add-two-at c = search needs
 
--- src/lib.rt:32:9
 two-at-requires : tie.Need-two-at-requires
 two-at-requires c κs = search needs
 
--- src/lib.rt:33:25
 add-encoder : tie.Need-add-encoder
 add-encoder c = search needs
 
--- src/lib.rt:33:19
 shared-slice-read-encoder : tie.Need-shared-slice-read-encoder
 shared-slice-read-encoder c = search needs
 
--- src/lib.rt:34:48
 add-four-at : tie.Need-add-four-at
 add-four-at c = search needs
 
--- src/lib.rt:34:33
 four-at-requires : tie.Need-four-at-requires
 four-at-requires c κs = search needs
 
--- src/lib.rt:34:9
 of-requires : tie.Need-of-requires
 of-requires c κs = search needs
 
--- src/lib.rt:26:1
 returns : tie.Need-returns
 unfolding recordIn
 returns c =

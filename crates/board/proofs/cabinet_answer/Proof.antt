@@ -1,36 +1,25 @@
 use borrow.Author.Needs.{needs}
 use Rattle.board.proofs.cabinet_answer.Statement.{statement}
 use Rattle.board.proofs.cabinet_answer.Tie as tie
-use Rattle.board.proofs.cabinet_answer.Reads as reads
-use Rattle.board.proofs.cabinet_answer.Lts as lts
-use Rattle.axes.proofs.read_axes.Reads as read-axes-reads
-use Rattle.link.proofs.answer.Reads as answer-reads
 
--- src/lib.rt:78:9
 read-axes-requires : tie.Need-read-axes-requires
 read-axes-requires c κs = search needs
 
--- src/lib.rt:72:9
 answer-requires : tie.Need-answer-requires
 answer-requires c κs = search needs
 
--- src/lib.rt:52:1
 same-length : tie.Need-same-length
 same-length c = search needs
 
--- src/lib.rt:52:1
 same-length-2 : tie.Need-same-length-2
 same-length-2 c = search needs
 
--- src/lib.rt:52:1
 same-length-3 : tie.Need-same-length-3
 same-length-3 c = search needs
 
--- src/lib.rt:52:1
 same-length-4 : tie.Need-same-length-4
 same-length-4 c = search needs
 
--- src/lib.rt:52:1
 returns : tie.Need-returns
 returns c = rw (c .before .before .before .before .before .before .before .before .before .before .before .read-axes .ensures) at (c .before .before .before .before .before .before .before .before .before .answer .ensures)
 

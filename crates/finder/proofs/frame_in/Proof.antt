@@ -1,20 +1,17 @@
-use Prim.Native.Nat.{ℕ, suc, _+_, _-_, _*_, _/_, _%_, _≤_, _<_}
-use mathlib.Core.Path.{_≡_, refl, sym, ap, _∙_}
-use native.Mathlib.Omega.{arith}
-use lib.ListN.{length, take, drop, getD, set}
-use Rattle.finder.specs.Find.{findIn, partOf}
-use Rattle.finder.proofs.Finding.{Within, within}
+use Prim.Native.Nat.{_≤_}
+use mathlib.Core.Path.{sym, ap, _∙_}
+use lib.ListN.{length}
+use Rattle.finder.specs.Find.{partOf}
+use Rattle.finder.proofs.Finding.{within}
 use borrow.Author.Needs.{needs}
 use Rattle.finder.proofs.frame_in.Statement.{statement}
 use Rattle.finder.proofs.frame_in.Tie as tie
 
 -- the counts of a frame that was found
-counts : (c : tie.After-known-told) → (c .before .found .given .0 .0 ≤ c .before .found .given .0 .1 .0) × (c .before .found .given .0 .1 .0 ≤ length (c .before .before .before .before .before .args .received .now))
+counts : (c : tie.After-known-told) → (c .before .found .given .0 .0 ≤ c .before .found .given .0 .1 .0) × (c .before .found .given .0 .1 .0 ≤ length (c .before .before .before .args .received .now))
 counts c =
-    rw (sym (c .before .before .before .find .ensures) ∙ c .before .found .given .1) at (within (c .before .before .before .before .before .args .received .now))
-
-find-requires : tie.Need-find-requires
-find-requires c κs = search needs
+    let s = c .before .before .before in
+    rw (sym (s .pre) ∙ c .before .found .given .1) at (within (s .args .received .now))
 
 enum-known-found : tie.Need-enum-known-found
 enum-known-found c = search needs
@@ -65,30 +62,21 @@ part-result-end-4 : tie.Need-part-result-end-4
 part-result-end-4 c = search needs
 
 returns : tie.Need-returns
-returns c =
-    let s = c .before .before .before .before .before .before .args .received .now in
-    ap (λ f. partOf f s) (sym (c .before .before .found .given .1) ∙ c .before .before .before .before .find .ensures)
+returns c = ap (λ f. partOf f (c .before .before .before .before .args .received .now)) (sym (c .before .before .found .given .1))
 
 returns-2 : tie.Need-returns-2
-returns-2 c =
-    let s = c .before .before .before .before .before .args .received .now in
-    ap (λ f. partOf f s) (sym (c .before .enum-told .given .1) ∙ c .before .before .before .find .ensures)
+returns-2 c = search needs
 
 returns-3 : tie.Need-returns-3
-returns-3 c =
-    let s = c .before .before .before .before .before .args .received .now in
-    ap (λ f. partOf f s) (sym (c .before .enum-told2 .given .1) ∙ c .before .before .before .find .ensures)
+returns-3 c = search needs
 
 returns-4 : tie.Need-returns-4
-returns-4 c =
-    let s = c .before .before .before .before .before .args .received .now in
-    ap (λ f. partOf f s) (sym (c .before .enum-told3 .given .1) ∙ c .before .before .before .find .ensures)
+returns-4 c = search needs
 
 pub frame-in-spec : {M : Type 1} → statement M
 frame-in-spec =
     tie.close
     (tie.spec
-    find-requires
     enum-known-found
     sub-result
     part-result-start

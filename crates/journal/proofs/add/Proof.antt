@@ -47,7 +47,7 @@ returns c =
     let o = b .before .before in
     let s = o .before .before .before in
     let a = s .args in
-    holds-added (a .n) (a .journal .now) _ _ (a .used) (o .over-by .result) (b .cut .result) (entryFor (a .tag) (a .start) (a .old .now))
+    holds-added (a .held) (a .journal .now) _ _ (a .used) (o .over-by .result) (b .cut .result) (entryFor (a .tag) (a .start) (a .old .now))
     (λ i. o .before .before .slice-known .given i .fits) (s .pre .0 .2) (s .pre .1 .0) (s .pre .0 .3) (o .over-by .ensures) (b .cut .ensures .0) (b .cut .ensures .2)
     (c .before .before .before .before .before .before .move-run .ensures) (c .before .before .put-entry .ensures)
 

@@ -4,17 +4,18 @@ use native.Mathlib.Omega.{arith}
 use borrow.Author.Needs.{needs}
 use lib.ListN.{length}
 use Rattle.journal.specs.Journal.{frontOf}
-use Rattle.journal.proofs.Walk.{part-rest, part-whole}
+use Rattle.digits.proofs.Laid.{part-rest}
+use Rattle.journal.proofs.Walk.{part-whole}
 use Rattle.journal.proofs.Codec.{Bytes}
 use Rattle.journal.proofs.Keeping.{Cutting, cutting-first, cutting-next, cutting-done}
 use Rattle.journal.proofs.cut.Statement.{statement}
 use Rattle.journal.proofs.cut.Tie as tie
 
 abbrev Inv-loop : tie.InvT-loop
-Inv-loop bytes over n at₀ at = Cutting n over bytes at
+Inv-loop bytes over held at₀ at = Cutting held over bytes at
 
 abbrev μ-loop : tie.MeasureT-loop
-μ-loop bytes over n at₀ at = length bytes - at
+μ-loop bytes over held at₀ at = length bytes - at
 
 abbrev start : tie.After-entry-length Inv-loop μ-loop → tie.Start Inv-loop μ-loop
 start c = c .before .before .before .before .before
@@ -23,20 +24,20 @@ abbrev next : tie.After-entry-length Inv-loop μ-loop → ℕ
 next c = c .before .before .before .loop .at + c .entry-length .result
 
 turn : (c : tie.After-entry-length Inv-loop μ-loop)
-    → (c .before .before .before .loop .at < next c) × Cutting (start c .args .n) (start c .args .over) (start c .args .bytes .now) (next c)
+    → (c .before .before .before .loop .at < next c) × Cutting (start c .args .held) (start c .args .over) (start c .args .bytes .now) (next c)
 turn c =
     let s = start c in
     let g = c .before .before .before .loop in
-    cutting-next (s .args .n) (s .args .over) (s .args .bytes .now) (λ i. c .before .before .before .before .shared-slice-known .given i .fits)
+    cutting-next (s .args .held) (s .args .over) (s .args .bytes .now) (λ i. c .before .before .before .before .shared-slice-known .given i .fits)
     (g .at)
     (g .inv)
     (c .entry-length .result)
-    (c .entry-length .ensures ∙ ap (frontOf (s .args .n)) (part-rest (g .at) (s .args .bytes .now)))
+    (c .entry-length .ensures ∙ ap (frontOf (s .args .held)) (part-rest (s .args .bytes .now) (g .at)))
     (s .pre .1)
     (c .before .before .loop-test .taken)
 
 loop-holds : tie.Need-loop-holds Inv-loop μ-loop
-loop-holds c = cutting-first (c .before .args .n) (c .before .args .over) (c .before .args .bytes .now) (c .before .pre .2)
+loop-holds c = cutting-first (c .before .args .held) (c .before .args .over) (c .before .args .bytes .now) (c .before .pre .2)
 
 sub-entry-length : tie.Need-sub-entry-length Inv-loop μ-loop
 sub-entry-length c = search needs
@@ -51,7 +52,7 @@ entry-length-requires : tie.Need-entry-length-requires Inv-loop μ-loop
 entry-length-requires c κs =
     let s = c .before .before .before .before in
     let g = c .before .before .loop in
-    part-whole (s .args .n) (g .at) (s .args .bytes .now) (omega (arith, c .before .loop-test .taken, s .pre .1)) (g .inv .good)
+    part-whole (s .args .held) (g .at) (s .args .bytes .now) (omega (arith, c .before .loop-test .taken, s .pre .1)) (g .inv .good)
 
 add-at : tie.Need-add-at Inv-loop μ-loop
 add-at c = let t = turn c in omega arith
@@ -69,7 +70,7 @@ returns c =
     let bytes : Bytes (s .args .bytes .now) = λ i. c .before .before .shared-slice-known .given i .fits in (
       g .inv .within,
       c .loop-test .left,
-      cutting-done (s .args .n) (s .args .over) (s .args .bytes .now) bytes (g .at) (g .inv) (c .loop-test .left),
+      cutting-done (s .args .held) (s .args .over) (s .args .bytes .now) bytes (g .at) (g .inv) (c .loop-test .left),
     )
 
 pub cut-spec : {M : Type 1} → statement M

@@ -4,33 +4,34 @@ use native.Mathlib.Omega.{arith}
 use borrow.Author.Needs.{needs}
 use lib.ListN.{length}
 use Rattle.journal.specs.Journal.{frontOf}
-use Rattle.journal.proofs.Walk.{part-rest, part-whole}
+use Rattle.digits.proofs.Laid.{part-rest}
+use Rattle.journal.proofs.Walk.{part-whole}
 use Rattle.journal.proofs.Back.{before, Seek, seek-first, seek-whole, seek-next, seek-done}
 use Rattle.journal.proofs.last_at.Statement.{statement}
 use Rattle.journal.proofs.last_at.Tie as tie
 
 abbrev Inv-loop : tie.InvT-loop
-Inv-loop bytes n at₀ next₀ at next = Seek n bytes at next
+Inv-loop bytes held at₀ next₀ at next = Seek held bytes at next
 
 abbrev μ-loop : tie.MeasureT-loop
-μ-loop bytes n at₀ next₀ at next = length bytes - next
+μ-loop bytes held at₀ next₀ at next = length bytes - next
 
 abbrev start : tie.After-entry-length2 Inv-loop μ-loop → tie.Start Inv-loop μ-loop
 start c = c .before .before .before .before .before .before
 
 turn : (c : tie.After-entry-length2 Inv-loop μ-loop)
-    → Seek (start c .args .n) (start c .args .bytes .now) (c .before .before .before .loop .next) (c .before .before .before .loop .next + c .entry-length2 .result)
+    → Seek (start c .args .held) (start c .args .bytes .now) (c .before .before .before .loop .next) (c .before .before .before .loop .next + c .entry-length2 .result)
 turn c =
     let s = start c in
     let g = c .before .before .before .loop in
-    seek-next (s .args .n) (s .args .bytes .now) (g .at) (g .next) (c .entry-length2 .result) (g .inv) (c .before .before .loop-test .taken)
-    (c .entry-length2 .ensures ∙ ap (frontOf (s .args .n)) (part-rest (g .next) (s .args .bytes .now)))
+    seek-next (s .args .held) (s .args .bytes .now) (g .at) (g .next) (c .entry-length2 .result) (g .inv) (c .before .before .loop-test .taken)
+    (c .entry-length2 .ensures ∙ ap (frontOf (s .args .held)) (part-rest (s .args .bytes .now) (g .next)))
 
 entry-length-requires : tie.Need-entry-length-requires Inv-loop μ-loop
 entry-length-requires c κs = search needs
 
 loop-holds : tie.Need-loop-holds Inv-loop μ-loop
-loop-holds c = let s = c .before .before in seek-first (s .args .n) (s .args .bytes .now) (c .entry-length .ensures) (s .pre .1) (s .pre .2)
+loop-holds c = let s = c .before .before in seek-first (s .args .held) (s .args .bytes .now) (c .entry-length .ensures) (s .pre .1) (s .pre .2)
 
 sub-entry-length : tie.Need-sub-entry-length Inv-loop μ-loop
 sub-entry-length c = search needs
@@ -45,7 +46,7 @@ entry-length-requires-2 : tie.Need-entry-length-requires-2 Inv-loop μ-loop
 entry-length-requires-2 c κs =
     let s = c .before .before .before .before .before in
     let g = c .before .before .loop in
-    part-whole (s .args .n) (g .next) (s .args .bytes .now) (c .before .loop-test .taken) (seek-whole (s .args .n) (s .args .bytes .now) (g .at) (g .next) (g .inv))
+    part-whole (s .args .held) (g .next) (s .args .bytes .now) (c .before .loop-test .taken) (seek-whole (s .args .held) (s .args .bytes .now) (g .at) (g .next) (g .inv))
 
 add-next : tie.Need-add-next Inv-loop μ-loop
 add-next c = let t = turn c in omega arith
@@ -60,7 +61,7 @@ returns : tie.Need-returns Inv-loop μ-loop
 unfolding before
 returns c =
     let s = c .before .before .before .before in
-    seek-done (s .args .n) (s .args .bytes .now) (c .before .loop .at) (c .before .loop .next) (c .before .loop .inv) (c .loop-test .left)
+    seek-done (s .args .held) (s .args .bytes .now) (c .before .loop .at) (c .before .loop .next) (c .before .loop .inv) (c .loop-test .left)
 
 pub last-at-spec : {M : Type 1} → statement M
 last-at-spec =

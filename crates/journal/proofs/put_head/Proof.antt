@@ -1,6 +1,6 @@
 use native.Mathlib.Omega.{arith}
 use lib.ListN.{length-set}
-use Rattle.journal.proofs.Adding.{five-stored}
+use Rattle.journal.proofs.Adding.{head-laid}
 use borrow.Author.Needs.{needs}
 use Rattle.journal.proofs.put_head.Statement.{statement}
 use Rattle.journal.proofs.put_head.Tie as tie
@@ -8,64 +8,47 @@ use Rattle.journal.proofs.put_head.Tie as tie
 slice-write-journal : tie.Need-slice-write-journal
 slice-write-journal c = search needs
 
-cast-journal : tie.Need-cast-journal
-cast-journal c = search needs
+add-put-two : tie.Need-add-put-two
+add-put-two c = search needs
 
-add-journal : tie.Need-add-journal
-add-journal c = search needs
+cast-put-two : tie.Need-cast-put-two
+cast-put-two c = search needs
 
-slice-write-journal-2 : tie.Need-slice-write-journal-2
-slice-write-journal-2 c = simp length-set (omega arith)
+put-two-requires : tie.Need-put-two-requires
+put-two-requires c κs = simp length-set (omega arith)
 
-cast-journal-2 : tie.Need-cast-journal-2
-cast-journal-2 c = search needs
+add-put-two-2 : tie.Need-add-put-two-2
+add-put-two-2 c = search needs
 
-add-journal-2 : tie.Need-add-journal-2
-add-journal-2 c = search needs
+cast-put-two-2 : tie.Need-cast-put-two-2
+cast-put-two-2 c = search needs
 
-slice-write-journal-3 : tie.Need-slice-write-journal-3
-slice-write-journal-3 c = simp length-set (omega arith)
-
-cast-journal-3 : tie.Need-cast-journal-3
-cast-journal-3 c = search needs
-
-add-journal-3 : tie.Need-add-journal-3
-add-journal-3 c = search needs
-
-slice-write-journal-4 : tie.Need-slice-write-journal-4
-slice-write-journal-4 c = simp length-set (omega arith)
-
-cast-journal-4 : tie.Need-cast-journal-4
-cast-journal-4 c = search needs
-
-add-journal-4 : tie.Need-add-journal-4
-add-journal-4 c = search needs
-
-slice-write-journal-5 : tie.Need-slice-write-journal-5
-slice-write-journal-5 c = simp length-set (omega arith)
+put-two-requires-2 : tie.Need-put-two-requires-2
+put-two-requires-2 c κs =
+    let a = c .before .before .before .before .before .before .args in
+    omega (arith, length-set (a .journal .now) (a .at) (a .tag))
 
 same-length : tie.Need-same-length
-same-length c = search needs
+same-length c =
+    let a = c .before .before .before .before .before .before .before .before .before .args in
+    omega (arith, length-set (a .journal .now) (a .at) (a .tag))
 
 returns : tie.Need-returns
-returns c = five-stored (c .args .journal .now) (c .args .at) _ _ _ _ _ (omega arith)
+returns c =
+    let g = c .before .before .before .before .before .before in
+    let a = g .before .before .before .args in
+    head-laid (a .journal .now) _ _ (a .at) (a .tag) (a .many) (a .start) (omega arith) (g .put-two .ensures) (c .before .before .put-two2 .ensures)
 
 pub put-head-spec : {M : Type 1} → statement M
 put-head-spec =
     tie.close
     (tie.spec
     slice-write-journal
-    cast-journal
-    add-journal
-    slice-write-journal-2
-    cast-journal-2
-    add-journal-2
-    slice-write-journal-3
-    cast-journal-3
-    add-journal-3
-    slice-write-journal-4
-    cast-journal-4
-    add-journal-4
-    slice-write-journal-5
+    add-put-two
+    cast-put-two
+    put-two-requires
+    add-put-two-2
+    cast-put-two-2
+    put-two-requires-2
     same-length
     returns)

@@ -5,7 +5,7 @@ use lib.ListN.{length}
 use Rattle.areas.specs.Kinds.{put}
 use Rattle.digits.specs.Laid.{laid}
 use Rattle.journal.specs.Journal.{entryFor}
-use Rattle.journal.proofs.Fitting.{Fit, fit, restored-own, restored-other}
+use Rattle.journal.proofs.Fitting.{Fit, fit, puts-own, puts-other}
 use borrow.Author.Needs.{needs}
 use Rattle.journal.proofs.restore.Statement.{statement}
 use Rattle.journal.proofs.restore.Tie as tie
@@ -27,12 +27,12 @@ unfolding put
 returns c =
     let b = c .before .before .before .before in
     let a = b .before .before .before .before .args in
-    c .before .before .put-run .ensures ∙ ap (λ (m : ℕ). laid (a .area .now) m (a .old .now)) (b .place .ensures) ∙ restored-own (a .k) (entryFor (a .tag) (a .start) (a .old .now)) (a .area .now) (b .before .if1 .taken)
+    c .before .before .put-run .ensures ∙ ap (λ (m : ℕ). laid (a .area .now) m (a .old .now)) (b .place .ensures) ∙ puts-own (a .k) (entryFor (a .tag) (a .start) (a .old .now)) (a .area .now) (b .before .if1 .taken)
 
 returns-2 : tie.Need-returns-2
 returns-2 c =
     let a = c .before .before .before .args in
-    restored-other (a .k) (entryFor (a .tag) (a .start) (a .old .now)) (a .area .now) (c .if1 .left)
+    puts-other (a .k) (entryFor (a .tag) (a .start) (a .old .now)) (a .area .now) (c .if1 .left)
 
 pub restore-spec : {M : Type 1} → statement M
 restore-spec = tie.close (tie.spec place-requires put-run-requires same-length returns returns-2)

@@ -1,85 +1,79 @@
-use Rattle.digits.proofs.Laid.{laid-nothing}
-use mathlib.Core.Path.{_≡_, refl, sym, _∙_}
-use Rattle.refusals.specs.Call.{Call}
-use Rattle.refusals.specs.Call.{callOf}
-use Rattle.link.proofs.Answering.{passed, silent-answer}
+use mathlib.Core.Path.{_≡_, refl, sym, ap, _∙_}
+use native.Mathlib.Omega.{arith}
+use Rattle.calls.specs.Calls.{Call, callOf, areasOf}
+use Rattle.refusals.specs.Refusals.{silentOf}
+use Rattle.refusals.proofs.Tested.{same-sound}
+use Rattle.link.proofs.Answering.{silent-first, same-asked}
 use Rattle.link.proofs.Carrying.{fine}
+use Rattle.link.proofs.Outcomes.{answered-silent, answered-refused}
 use borrow.Author.Needs.{needs}
 use Rattle.link.proofs.answer.Statement.{statement}
 use Rattle.link.proofs.answer.Tie as tie
-use Rattle.link.proofs.answer.Reads as reads
-use Rattle.link.proofs.answer.Lts as lts
-use Rattle.link.proofs.carry_out.Reads as carry-out-reads
-use Rattle.refusals.proofs.silent.Reads as silent-reads
-use Rattle.messages.proofs.judge.Reads as judge-reads
 
 -- the call as it is made
 abbrev call : tie.Start → Call
-call c = callOf (c .args .frame .now) (c .args .points .now) (c .args .columns .now) (c .args .journal .now) (c .args .kept .used) (c .args .axes) (c .args .settings) (c .args .reply .now)
+call s =
+    callOf (s .args .frame .now) (s .args .axes) (s .args .settings) (s .args .reply .now)
+    (areasOf (s .args .points .now) (s .args .columns .now) (s .args .journal .now) (s .args .kept))
 
--- src/lib.rt:257:9
+-- the function's entry, from where no refusal without a reply holds
+abbrev start : tie.Else1 → tie.Start
+start g = g .before .before .before .before .before .before .before .before
+
+heard : (g : tie.Else1) → silentOf (call (start g)) ≡ 0
+heard g = silent-first (call (start g)) ∙ sym (g .before .silent .ensures) ∙ g .if1 .left
+
 silent-requires : tie.Need-silent-requires
 silent-requires c κs = search needs
 
--- src/lib.rt:259:9
 same-length : tie.Need-same-length
 same-length c = search needs
 
--- src/lib.rt:259:9
+returns : tie.Need-returns
+returns c = let s = c .before .before .before .before .before .before .before .before in answered-silent (call s) _ (c .before .silent .ensures ∙ sym (silent-first (call s))) (c .if1 .taken)
+
+by-requires : tie.Need-by-requires
+by-requires c κs = search needs
+
+judge-requires : tie.Need-judge-requires
+judge-requires c κs = let g = c .before in let f = fine (call (start g)) (heard g) in (f .frame-long, same-sound (c .by .ensures) (f .sound-held))
+
+enum-known-asked : tie.Need-enum-known-asked
+enum-known-asked c = search needs
+
+refuse-requires : tie.Need-refuse-requires
+refuse-requires c κs = let g = c .before .before .before .before .before .before in omega (arith, fine (call (start g)) (heard g) .reply-long)
+
+enum-known-asked-2 : tie.Need-enum-known-asked-2
+enum-known-asked-2 c = search needs
+
+carry-out-requires : tie.Need-carry-out-requires
+carry-out-requires c κs = let g = c .before .before .before .before .before .before .before .before .before in record { silent-0 = heard g; order = same-asked _ _ (sym (c .before .before .before .before .before .asked2 .given .1) ∙ c .before .before .before .before .before .before .before .judge .ensures) (c .before .before .before .before .before .before .before .before .by .ensures) }
+
 same-length-2 : tie.Need-same-length-2
 same-length-2 c = search needs
 
--- src/lib.rt:259:9
 same-length-3 : tie.Need-same-length-3
 same-length-3 c = search needs
 
--- src/lib.rt:259:9
+returns-2 : tie.Need-returns-2
+returns-2 c = let g = c .before .before .before .before .before .before .before .before .before in
+    answered-refused (call (start g)) _ _ _ (heard g) (same-asked _ _ (sym (c .before .before .before .before .before .asked .given .1) ∙ c .before .before .before .before .before .before .before .judge .ensures) (c .before .before .before .before .before .before .before .before .by .ensures)) (c .before .before .refuse .ensures .0) (c .before .before .refuse .ensures .1)
+
 same-length-4 : tie.Need-same-length-4
 same-length-4 c = search needs
 
--- src/lib.rt:259:9
-returns : tie.Need-returns
-returns c =
-    rw (silent-answer (call (c .before .before .before .before .before .before .before .before .before .before .before)) _ (c .before .silent .ensures) (c .if1 .taken))
-    (record {
-      number-is = refl;
-      length-is = refl;
-      used-is = refl;
-      points-are = refl;
-      columns-are = refl;
-      journal-is = refl;
-      reply-is = sym (laid-nothing _ 0);
-    })
-
--- src/lib.rt:265:9
-judge-requires : tie.Need-judge-requires
-judge-requires c κs =
-    let f = fine _ (passed (call (c .before .before .before .before .before .before .before .before .before .before .before)) (sym (c .before .silent .ensures) ∙ c .if1 .left)) in
-    (f .frame-long, f .points .most)
-
--- src/lib.rt:266:5
-carry-out-requires : tie.Need-carry-out-requires
-carry-out-requires c κs = search needs
-
--- src/lib.rt:243:1
 same-length-5 : tie.Need-same-length-5
 same-length-5 c = search needs
 
--- src/lib.rt:243:1
 same-length-6 : tie.Need-same-length-6
 same-length-6 c = search needs
 
--- src/lib.rt:243:1
 same-length-7 : tie.Need-same-length-7
 same-length-7 c = search needs
 
--- src/lib.rt:243:1
-same-length-8 : tie.Need-same-length-8
-same-length-8 c = search needs
-
--- src/lib.rt:243:1
-returns-2 : tie.Need-returns-2
-returns-2 c = search needs
+returns-3 : tie.Need-returns-3
+returns-3 c = search needs
 
 pub answer-spec : {M : Type 1} → statement M
 answer-spec =
@@ -87,14 +81,18 @@ answer-spec =
     (tie.spec
     silent-requires
     same-length
+    returns
+    by-requires
+    judge-requires
+    enum-known-asked
+    refuse-requires
+    enum-known-asked-2
+    carry-out-requires
     same-length-2
     same-length-3
+    returns-2
     same-length-4
-    returns
-    judge-requires
-    carry-out-requires
     same-length-5
     same-length-6
     same-length-7
-    same-length-8
-    returns-2)
+    returns-3)

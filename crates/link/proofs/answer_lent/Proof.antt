@@ -35,32 +35,31 @@ use denote.Triple.Table.{entered, cited}
 use denote.Triple.Walked.{says, Stays, stay-none, stay-none-slice, gave-slice, walkOf, goes-none, goes-none-slice, goes-gave-slice, Walks, ends-at, walked, walk-meets}
 use denote.Exit.{yes}
 use denote.Triple.Clauses.{ensured, lasts}
-use Rattle.queries.specs.declared.AxisRecord.{AxisRecord}
-use Rattle.queries.proofs.AxisRecord as T
+use Rattle.axes.specs.declared.AxisRecord.{AxisRecord}
+use Rattle.axes.proofs.AxisRecord as T
 use Rattle.link.specs.declared.Answered.{Answered}
-use Rattle.lent.specs.declared.Axes.{Axes}
-use Rattle.link.specs.declared.Kept.{Kept}
-use Rattle.refusals.specs.declared.Settings.{Settings}
-use Rattle.link.specs.Answer.{answerOf}
-use Rattle.refusals.specs.Call.{callOf}
+use Rattle.axes.specs.declared.Axes.{Axes}
+use Rattle.calls.specs.declared.Kept.{Kept}
+use Rattle.calls.specs.declared.Settings.{Settings}
+use Rattle.calls.specs.Calls.{areasOf, callOf}
 use Rattle.link.specs.Contract.{Answers}
-use Rattle.lent.specs.Run.{lentAxes}
+use Rattle.axes.specs.Run.{lentAxes}
 use Rattle.link.proofs.Answered as N
 use Rattle.link.proofs.Answered.Laws as N′
-use Rattle.lent.proofs.Axes as X
-use Rattle.lent.proofs.Axes.Laws as X′
-use Rattle.link.proofs.Kept as K
-use Rattle.link.proofs.Kept.Laws as K′
-use Rattle.refusals.proofs.Settings as S
-use Rattle.refusals.proofs.Settings.Laws as S′
+use Rattle.axes.proofs.Axes as X
+use Rattle.axes.proofs.Axes.Laws as X′
+use Rattle.calls.proofs.Kept as K
+use Rattle.calls.proofs.Kept.Laws as K′
+use Rattle.calls.proofs.Settings as S
+use Rattle.calls.proofs.Settings.Laws as S′
 use Rattle.link.proofs.answer as answer
 use Rattle.link.proofs.answer.Symbol as answer-def
 use Rattle.link.proofs.answer.Symbol.{name as #link·answer}
 use Rattle.link.proofs.answer.Met as answer-thm
-use Rattle.lent.proofs.axes_of as axes
-use Rattle.lent.proofs.axes_of.Symbol as axes-def
-use Rattle.lent.proofs.axes_of.Symbol.{name as #lent·axes-of}
-use Rattle.lent.proofs.axes_of.Met as axes-thm
+use Rattle.axes.proofs.axes_of as axes
+use Rattle.axes.proofs.axes_of.Symbol as axes-def
+use Rattle.axes.proofs.axes_of.Symbol.{name as #axes·axes-of}
+use Rattle.axes.proofs.axes_of.Met as axes-thm
 use Rattle.link.proofs.answer_lent.Key.{name as #key}
 use Rattle.link.proofs.answer_lent as fun
 use Rattle.link.proofs.answer_lent.Statement as stated
@@ -208,7 +207,8 @@ module _ {M : Type 1} (𝓤 : URA M) (H : Heap 𝓤) (A : Atoms 𝓤) (W : Given
   Lasts = Unit {0} × (List ℕ × (List ℕ × (List ℕ × (Unit {0} × (Unit {0} × (Unit {0} × (List ℕ × Unit {0})))))))
 
   abbrev Said : Axes → Answered → Lasts → Type 0
-  Said r z ws = Answers (answerOf (callOf (now f) (now p) (now c) (now j) (k .used) r t (now y))) z (ws .1 .0) (ws .1 .1 .0) (ws .1 .1 .1 .0) (now y) (ws .1 .1 .1 .1 .1 .1 .1 .0)
+  Said r z ws =
+      Answers (callOf (now f) r t (now y) (areasOf (now p) (now c) (now j) k)) z (areasOf (ws .1 .0) (ws .1 .1 .0) (ws .1 .1 .1 .0) (z .kept)) (ws .1 .1 .1 .1 .1 .1 .1 .0)
 
   exits : (r : Axes) (z : Answered) (v : Val) (ws : Lasts) → r ≡ lentAxes (now s) → Said r z ws
       → ent 𝓤 (⋆ 𝓤 H A (‵ (N.the-row .own z (v ∷ [])) ∷ Toks₅ ∷ ‵ (lasts answer.ended κs₅ (passed r) ws) ∷ Shared ∷ (‵ (flft κs qs) ⊛ ‵ ftrue) ∷ [])) (Post v)
@@ -225,7 +225,7 @@ module _ {M : Type 1} (𝓤 : URA M) (H : Heap 𝓤) (A : Atoms 𝓤) (W : Given
       owned ! K.the-row (Is K.the-row) (LL.makes K.the-type K′.the-plain 𝓤 H A) k (K′.lowered k ∷ []) k-is $ owned ! S.the-row (Is S.the-row) (LL.makes S.the-type S′.the-plain 𝓤 H A) t (S′.lowered t ∷ []) t-is $
       move ! (2 ∷ 9 ∷ 8 ∷ 7 ∷ 1 ∷ 3 ∷ 0 ∷ 5 ∷ 4 ∷ []) $ group ! 9 $ frame ! $ drop ! $ done !))))
 
-  module _ (C : Calls 𝓤 H) (Λ : Loops 𝓤 H) (fm : FmC 𝓤 H (W .laws) C) (known-axes : Triple 𝓤 (C #lent·axes-of) (AxesOf 𝓤 H A mem run)) (known-answer : Triple 𝓤 (C #link·answer) (Answer 𝓤 H A mem run)) where
+  module _ (C : Calls 𝓤 H) (Λ : Loops 𝓤 H) (fm : FmC 𝓤 H (W .laws) C) (known-axes : Triple 𝓤 (C #axes·axes-of) (AxesOf 𝓤 H A mem run)) (known-answer : Triple 𝓤 (C #link·answer) (Answer 𝓤 H A mem run)) where
     walk : Room u8 (length (now f)) → Room u8 (length (now p)) → Room u8 (length (now c)) → Room u8 (length (now j)) → Room T.the-row (length (now s)) → Room u8 (length (now y))
         → ent 𝓤 (onEntry 𝓤 H A fun.signature κs₆ qs₆ a vals) (WpFn 𝓤 H C Λ code.function (bytes-of f ∷ bytes-of p ∷ bytes-of c ∷ bytes-of j ∷ K′.lowered k ∷ vs ∷ S′.lowered t ∷ bytes-of y ∷ []) Post)
     walk gf gp gc gj gs gy =
@@ -265,7 +265,7 @@ module _ {M : Type 1} (𝓤 : URA M) (H : Heap 𝓤) (A : Atoms 𝓤) (W : Given
         by ! (exits r z v ws e said))))))))))))))))))))))))))))
 
 module _ {M : Type 1} (𝓤 : URA M) (H : Heap 𝓤) (A : Atoms 𝓤) (W : Given 𝓤 H A) (mem : Memory → SProp 𝓤) (run : Routine → Fun 𝓤) where
-  fun-walks : (C : Calls 𝓤 H) (Λ : Loops 𝓤 H) → FmC 𝓤 H (W .laws) C → Triple 𝓤 (C #lent·axes-of) (AxesOf 𝓤 H A mem run) → Triple 𝓤 (C #link·answer) (Answer 𝓤 H A mem run)
+  fun-walks : (C : Calls 𝓤 H) (Λ : Loops 𝓤 H) → FmC 𝓤 H (W .laws) C → Triple 𝓤 (C #axes·axes-of) (AxesOf 𝓤 H A mem run) → Triple 𝓤 (C #link·answer) (Answer 𝓤 H A mem run)
       → Walks 𝓤 H A fun.ended stayed (WpFn 𝓤 H C Λ code.function) (fun.clauses 𝓤 H A mem run)
   fun-walks C Λ fm known-axes known-answer = walked 𝓤 H A fun.ended stayed (fun.clauses 𝓤 H A mem run) (WpFn 𝓤 H C Λ code.function)
       (λ κs. (slice-vals, (slice-vals, (slice-vals, (slice-vals, (LL.vals K.the-type K′.the-laws, (slice-vals, (LL.vals S.the-type S′.the-laws, (slice-vals, tt)))))))))
@@ -276,7 +276,7 @@ module _ {M : Type 1} (𝓤 : URA M) (H : Heap 𝓤) (A : Atoms 𝓤) (W : Given
       (are .0 .0 .1) (are .1 .0 .0 .1) (are .1 .1 .0 .0 .1) (are .1 .1 .1 .0 .0 .1) (are .1 .1 .1 .1 .1 .0 .0 .1) (are .1 .1 .1 .1 .1 .1 .1 .0 .0 .1)))
 
 fun-meets : {M : Type 1} (𝓤 : URA M) (H : Heap 𝓤) (A : Atoms 𝓤) (W : Given 𝓤 H A) (mem : Memory → SProp 𝓤) (run : Routine → Fun 𝓤) (𝓣 : Tables 𝓤 H)
-    → Triple 𝓤 (𝓣 .C #lent·axes-of) (AxesOf 𝓤 H A mem run) → Triple 𝓤 (𝓣 .C #link·answer) (Answer 𝓤 H A mem run)
+    → Triple 𝓤 (𝓣 .C #axes·axes-of) (AxesOf 𝓤 H A mem run) → Triple 𝓤 (𝓣 .C #link·answer) (Answer 𝓤 H A mem run)
     → Meets 𝓤 H A fun.signature (WpFn 𝓤 H (𝓣 .C) (𝓣 .Λ) code.function) (fun.spec 𝓤 H A mem run)
 fun-meets 𝓤 H A W mem run 𝓣 known-axes known-answer =
     walk-meets 𝓤 H A fun.ended stayed W (
@@ -310,5 +310,5 @@ answer-lent-spec 𝓤 H 𝓜 𝓖 𝓡 =
     entered 𝓤 H (tripleOf 𝓤 H (𝓖 .A) fun.signature (fun.spec 𝓤 H (𝓖 .A) (𝓜 .mem) (𝓡 .run)))
     (tables 𝓤 H 𝓜 𝓡 code.env .C) (tables 𝓤 H 𝓜 𝓡 code.env .Λ) #key code.function (code.unfolded 𝓤 H 𝓜 𝓡)
     (fun-meets 𝓤 H (𝓖 .A) (givenOf 𝓤 H 𝓜 𝓖) (𝓜 .mem) (𝓡 .run) (tablesOf 𝓤 H 𝓜 (tables 𝓤 H 𝓜 𝓡 code.env))
-    (cited 𝓤 H (AxesOf 𝓤 H (𝓖 .A) (𝓜 .mem) (𝓡 .run)) 𝓜 𝓡 code.env #lent·axes-of axes-def.routine code.calls-lent·axes-of (axes-thm.met 𝓤 H 𝓜 𝓖 𝓡))
+    (cited 𝓤 H (AxesOf 𝓤 H (𝓖 .A) (𝓜 .mem) (𝓡 .run)) 𝓜 𝓡 code.env #axes·axes-of axes-def.routine code.calls-axes·axes-of (axes-thm.met 𝓤 H 𝓜 𝓖 𝓡))
     (cited 𝓤 H (Answer 𝓤 H (𝓖 .A) (𝓜 .mem) (𝓡 .run)) 𝓜 𝓡 code.env #link·answer answer-def.routine code.calls-link·answer (answer-thm.met 𝓤 H 𝓜 𝓖 𝓡)))

@@ -1,17 +1,22 @@
-use Prim.Native.Nat.{ℕ, suc, _+_, _-_, _*_, _/_, _%_, _≤_, _<_}
 use mathlib.Core.Path.{_≡_, refl, sym, ap, _∙_}
 use native.Mathlib.Omega.{arith}
-use Rattle.refusals.proofs.Tested.{CanStepBack, can-step-back}
-use Rattle.link.proofs.Answering.{refused-back, accepted-back}
-use Rattle.refusals.specs.Call.{backCall}
-use Rattle.link.specs.Contract.{StepsBack}
+use Rattle.calls.specs.Calls.{Areas, areasOf}
+use Rattle.refusals.specs.Refusals.{backRefusalOf}
+use Rattle.journal.specs.Laws.{Stands}
+use Rattle.link.proofs.Backing.{back-first, can-step-back, stepped-refused, find-needs, put-needs, stepped}
 use borrow.Author.Needs.{needs}
 use Rattle.link.proofs.step_back.Statement.{statement}
 use Rattle.link.proofs.step_back.Tie as tie
 
--- the tests are passed
-can : (c : tie.Else1) → CanStepBack (backCall (c .before .before .before .before .before .before .before .before .args .points .now) (c .before .before .before .before .before .before .before .before .args .columns .now) (c .before .before .before .before .before .before .before .before .args .journal .now) (c .before .before .before .before .before .before .before .before .args .kept .used))
-can c = can-step-back _ (sym (c .before .back-refusal .ensures) ∙ c .if1 .left)
+abbrev areas : tie.Start → Areas
+areas s = areasOf (s .args .points .now) (s .args .columns .now) (s .args .journal .now) (s .args .kept)
+
+-- the function's entry, from where the tests are passed
+abbrev start : tie.Else1 → tie.Start
+start g = g .before .before .before .before .before .before
+
+passed : (g : tie.Else1) → backRefusalOf (areas (start g)) ≡ 0
+passed g = back-first (areas (start g)) ∙ sym (g .before .back-refusal .ensures) ∙ g .if1 .left
 
 back-refusal-requires : tie.Need-back-refusal-requires
 back-refusal-requires c κs = search needs
@@ -19,36 +24,46 @@ back-refusal-requires c κs = search needs
 same-length : tie.Need-same-length
 same-length c = search needs
 
+returns : tie.Need-returns
+returns c = let s = c .before .before .before .before .before .before in stepped-refused (areas s) _ (c .before .back-refusal .ensures ∙ sym (back-first (areas s))) (c .if1 .taken)
+
+by-requires : tie.Need-by-requires
+by-requires c κs = search needs
+
+find-last-requires : tie.Need-find-last-requires
+find-last-requires c κs = let g = c .before .before in find-needs (areas (start g)) (passed g) (c .before .by .ensures)
+
+add-put-back : tie.Need-add-put-back
+add-put-back c = search needs
+
+sub-put-back : tie.Need-sub-put-back
+sub-put-back c = search needs
+
+part-put-back-start : tie.Need-part-put-back-start
+part-put-back-start c = search needs
+
+part-put-back-end : tie.Need-part-put-back-end
+part-put-back-end c = let g = c .before .before .before .before .before .before in omega (arith, can-step-back (areas (start g)) (passed g) .journal .within)
+
+put-back-requires : tie.Need-put-back-requires
+put-back-requires c κs = let g = c .before .before .before .before .before .before .before in put-needs (areas (start g)) (passed g) (c .before .before .before .before .before .before .by .ensures) (c .before .before .before .before .find-last .ensures)
+
+remove-requires : tie.Need-remove-requires
+remove-requires c κs = let g = c .before .before .before .before .before .before .before .before .before .before .before .before .before in omega (arith, can-step-back (areas (start g)) (passed g) .journal .within, c .before .before .before .before .before .before .before .before .before .before .find-last .ensures .span)
+
 same-length-2 : tie.Need-same-length-2
 same-length-2 c = search needs
 
 same-length-3 : tie.Need-same-length-3
 same-length-3 c = search needs
 
-returns : tie.Need-returns
-returns c =
-    let e = c .before .back-refusal .ensures in
-    rw (refused-back _ _ e (c .if1 .taken)) (record { number-is = refl; used-is = refl; points-are = refl; columns-are = refl; journal-is = refl })
-
-step-back-requires : tie.Need-step-back-requires
-step-back-requires c κs =
-    let k = can (c .before .before .before) in
-    ((k .points .most, k .used, k .journal .within, omega (arith, k .points .whole-slots), omega (arith, k .columns)), k .journal .entries)
-
 same-length-4 : tie.Need-same-length-4
 same-length-4 c = search needs
 
-same-length-5 : tie.Need-same-length-5
-same-length-5 c = search needs
-
-same-length-6 : tie.Need-same-length-6
-same-length-6 c = search needs
-
 returns-2 : tie.Need-returns-2
-returns-2 c =
-    let e = c .before .before .before .before .before .before .step-back .ensures in
-    rw (accepted-back _ (sym (c .before .before .before .before .before .before .before .before .before .before .before .back-refusal .ensures) ∙ c .before .before .before .before .before .before .before .before .before .before .if1 .left))
-    (record { number-is = refl; used-is = e .rest .used; points-are = e .points-back; columns-are = e .columns-back; journal-is = e .rest .bytes })
+returns-2 c = let g = c .before .before .before .before .before .before .before .before .before .before .before .before .before .before .before .before in
+    stepped (areas (start g)) (passed g) (c .before .before .before .before .before .before .before .before .before .before .before .before .before .before .before .by .ensures) (c .before .before .before .before .before .before .before .before .before .before .before .before .before .find-last .ensures) (λ i. c .before .before .before .before .before .before .before .before .before .before .before .before .before .before .before .before .before .before .before .slice-known3 .given i .fits) _ _ _ _ refl refl
+    (c .before .before .before .before .before .before .before .before .put-back .ensures .0) (c .before .before .before .before .before .before .before .before .put-back .ensures .1) (c .before .before .remove .ensures)
 
 pub step-back-spec : {M : Type 1} → statement M
 step-back-spec =
@@ -56,11 +71,16 @@ step-back-spec =
     (tie.spec
     back-refusal-requires
     same-length
+    returns
+    by-requires
+    find-last-requires
+    add-put-back
+    sub-put-back
+    part-put-back-start
+    part-put-back-end
+    put-back-requires
+    remove-requires
     same-length-2
     same-length-3
-    returns
-    step-back-requires
     same-length-4
-    same-length-5
-    same-length-6
     returns-2)

@@ -12,8 +12,8 @@ use Rattle.points.specs.Point.{lengthOf, fillsOf}
 use Rattle.points.proofs.Parts.{all-part, all-drop}
 use Rattle.points.proofs.Measured.{least, fills-next, fills-front, rest-of}
 use Rattle.digits.proofs.Inverse.{inverse}
-use Rattle.messages.specs.Layout.{patternFits, patternsFit}
-use Rattle.messages.proofs.Judging.{was-false, was-true}
+use Rattle.messages.specs.Table.{patternFits, patternsFit}
+use Rattle.digits.proofs.Bools.{was-false, was-true}
 use Rattle.messages.proofs.Patterns.{patterns-next, patterns-stop, patterns-done}
 use Rattle.messages.proofs.fit_patterns.Statement.{statement}
 use Rattle.messages.proofs.fit_patterns.Tie as tie
@@ -56,14 +56,14 @@ small-requires c κs =
     let g = c .before in
     let d = g .before .before .before .args .digits .now in
     let n : length (take 2 (drop (g .before .loop .at) d)) ≡ 2 = length-take-le 2 (drop (g .before .loop .at) d) (simp length-drop (omega (arith, room g))) in
-    rw add-sub-cancel-left (omega (arith, n), all-part 2 (g .before .loop .at) d (g .before .before .before .pre .0))
+    rw add-sub-cancel-left (omega (arith, n))
 
 cast-pattern : tie.Need-cast-pattern Inv-loop μ-loop
 cast-pattern c =
     let g = c .before .before in
     let d = g .before .before .before .args .digits .now in
     let n : length (take 2 (drop (g .before .loop .at) d)) ≡ 2 = length-take-le 2 (drop (g .before .loop .at) d) (simp length-drop (omega (arith, room g))) in
-    omega (arith, pattern c, inverse 2 .bound (take 2 (drop (g .before .loop .at) d)) n (all-part 2 (g .before .loop .at) d (g .before .before .before .pre .0)))
+    omega (arith, pattern c, inverse 2 .bound (take 2 (drop (g .before .loop .at) d)) n)
 
 fits-pattern-requires : tie.Need-fits-pattern-requires Inv-loop μ-loop
 fits-pattern-requires c κs = search needs

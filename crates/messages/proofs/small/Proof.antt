@@ -15,8 +15,8 @@ number-requires c κs = search needs
 returns : tie.Need-returns
 returns c =
     let s = c .before .before .args .field .now in
-    let h = inverse (length s) .bound s refl (c .before .before .pre .1) in
-    let k : 16 ^ length s ≤ 16 ^ 3 = pow-le-pow-right {n = 16} (omega arith) {i = length s} {j = 3} (omega arith) in
+    let h = inverse (length s) .bound s refl in
+    let k : 16 ^ length s ≤ 16 ^ 4 = pow-le-pow-right {n = 16} (omega arith) {i = length s} {j = 4} (omega arith) in
     (c .number .ensures, omega arith)
 
 pub small-spec : {M : Type 1} → statement M

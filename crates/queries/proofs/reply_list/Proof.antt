@@ -6,23 +6,17 @@ use borrow.Author.Needs.{needs}
 use Rattle.queries.proofs.reply_list.Statement.{statement}
 use Rattle.queries.proofs.reply_list.Tie as tie
 
-sub-put-run : tie.Need-sub-put-run
-sub-put-run c = search needs
+cast-put-number : tie.Need-cast-put-number
+cast-put-number c = search needs
 
-part-put-run-start : tie.Need-part-put-run-start
-part-put-run-start c = search needs
-
-part-put-run-end : tie.Need-part-put-run-end
-part-put-run-end c = search needs
-
-put-run-requires : tie.Need-put-run-requires
-put-run-requires c κs = search needs
+put-number-requires : tie.Need-put-number-requires
+put-number-requires c κs = search needs
 
 put-listings-requires : tie.Need-put-listings-requires
 put-listings-requires c κs = search needs
 
-put-number-requires : tie.Need-put-number-requires
-put-number-requires c κs = search needs
+put-number-requires-2 : tie.Need-put-number-requires-2
+put-number-requires-2 c κs = search needs
 
 add-close-reply : tie.Need-add-close-reply
 add-close-reply c = search needs
@@ -35,26 +29,26 @@ same-length c = search needs
 
 returns : tie.Need-returns
 returns c =
-    let a = c .before .before .before .before .before .before .before .before .before .before .before .before .before .before .before .before .before .before .before .before .before .args in
+    let a = c .before .before .before .before .before .before .before .before .before .before .before .before .before .before .before .before .before .before .before .before .args in
+    let room = c .before .before .before .before .before .before .before .before .before .before .before .before .before .before .before .before .before .before .before .before .pre .0 in
     let d = a .reply .now in
-    let f = a .frame .now in
-    let p = a .points .now in
+    let s = a .slots .now in
+    let i = c .before .before .before .before .before .before .before .before .before .before .before .before .before .before .before .put-number in
     let l = c .before .before .before .before .before .before .before .before .before .before .before .put-listings in
-    let k = c .before .before .before .before .before .before .before .before .before .before .before .before .before .before .before .put-run .kept .0 in
-    let e = list-laid d _ _ _ f p (a .start) (a .count) _ (omega arith) (omega arith) (omega arith) (c .before .before .before .before .before .before .before .before .before .before .before .before .before .before .before .put-run .ensures) (l .ensures .1) (l .ensures .0 .0) (c .before .before .before .before .before .before .before .put-number .ensures) in
-    let n = length-list f p (a .start) (a .count) _ (omega arith) (l .ensures .0 .1) in
-    replied d _ _ (listText f (a .start) (a .count) p) (a .station) (6 + l .result .digits) _ e n (omega (arith, l .ensures .0 .2)) (c .before .before .close-reply .ensures .0) (c .before .before .close-reply .ensures .1)
+    let h = i .kept .0 in
+    let k = c .before .before .close-reply .ensures in
+    let e = list-laid d _ _ _ s (a .m) (a .start) (a .count) _ (omega arith) (omega arith) (i .ensures) (l .ensures .1) (l .ensures .0 .0) (c .before .before .before .before .before .before .before .put-number2 .ensures) in
+    let n = length-list (a .m) (a .start) (a .count) _ s (l .ensures .0 .1) in
+    replied d _ _ (listText (a .m) (a .start) (a .count) s) (a .station) (6 + l .result .digits) _ e n (omega (arith, l .ensures .0 .2)) (k .0) (k .1)
 
 pub reply-list-spec : {M : Type 1} → statement M
 reply-list-spec =
     tie.close
     (tie.spec
-    sub-put-run
-    part-put-run-start
-    part-put-run-end
-    put-run-requires
-    put-listings-requires
+    cast-put-number
     put-number-requires
+    put-listings-requires
+    put-number-requires-2
     add-close-reply
     close-reply-requires
     same-length

@@ -1,5 +1,5 @@
 use mathlib.Core.Path.{_≡_, refl, sym, ap, _∙_}
-use Rattle.messages.proofs.Judging.{was-false, was-true}
+use Rattle.digits.proofs.Bools.{was-false, was-true}
 use borrow.Author.Tests.{not-true, not-false}
 use Rattle.refusals.specs.Refusals.{axesFit}
 use borrow.Author.Needs.{needs}

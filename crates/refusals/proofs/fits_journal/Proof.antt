@@ -26,7 +26,7 @@ unfolding journalFits
 returns-3 c = rw (le-leb _ _ (c .before .before .if1 .left), le-leb _ _ (c .before .if2 .left), lt-leb _ _ (c .if3 .taken))
 
 slice-aggregate-is-whole : tie.Need-slice-aggregate-is-whole
-slice-aggregate-is-whole c = sym (length-take-le _ (c .before .before .before .before .before .args .journal .now) (omega arith))
+slice-aggregate-is-whole c = sym (length-take-le _ (c .before .before .before .before .before .before .args .journal .now) (omega arith))
 
 is-whole-requires : tie.Need-is-whole-requires
 is-whole-requires c κs = search needs

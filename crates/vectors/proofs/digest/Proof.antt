@@ -7,7 +7,6 @@ use Rattle.vectors.proofs.digest.Statement.{statement}
 use Rattle.vectors.proofs.digest.Tie as tie
 use Rattle.vectors.proofs.digest.Reads as reads
 use Rattle.vectors.proofs.digest.Lts as lts
-use Rattle.vectors.proofs.wide.Reads as wide-reads
 
 abbrev Inv-loop : tie.InvT-loop
 Inv-loop area h₀ i₀ h i = (i ≤ length area) × (h < 4294967291)

@@ -10,7 +10,7 @@ number-requires : tie.Need-number-requires
 number-requires c κs = search needs
 
 cast-of : tie.Need-cast-of
-cast-of c = omega (arith, c .number .ensures, inverse 8 .bound (c .before .before .args .field .now) (c .before .before .pre .0) (c .before .before .pre .1))
+cast-of c = omega (arith, c .number .ensures, inverse 8 .bound (c .before .before .args .field .now) (c .before .before .pre .0))
 
 of-requires : tie.Need-of-requires
 of-requires c κs = search needs

@@ -9,7 +9,7 @@ number-requires : tie.Need-number-requires
 number-requires c κs = search needs
 
 cast-result : tie.Need-cast-result
-cast-result c = omega (arith, c .number .ensures, inverse 2 .bound (c .before .before .args .field .now) (c .before .before .pre .0) (c .before .before .pre .1))
+cast-result c = omega (arith, c .number .ensures, inverse 2 .bound (c .before .before .args .field .now) (c .before .before .pre .0))
 
 returns : tie.Need-returns
 returns c = search needs

@@ -1,0 +1,83 @@
+-- Document 01, "The areas": all that is handed over with a frame, and all that comes back.
+use Prim.Native.Nat.{ℕ}
+use mathlib.Core.Bool.{cond}
+use mathlib.Core.List.{List, []}
+use lib.Dec.{eqb}
+use lib.ListN.{length, take, replicate}
+use Rattle.areas.specs.declared.kinds.Held.{Held}
+use Rattle.areas.specs.Kinds.{pointsTag, columnsTag, pointsOf, columnsOf, heldBy, kindOf, sizeOf, runOf}
+use Rattle.journal.specs.Journal.{Entry, encodes, entriesIn, added, areaOf, lastEntry, others, puts, entryFor}
+use Rattle.axes.specs.declared.Axes.{Axes}
+use Rattle.calls.specs.declared.Settings.{Settings}
+use Rattle.calls.specs.declared.Kept.{Kept}
+use Rattle.calls.specs.declared.Lengths.{Lengths}
+
+-- the areas that are used throughout, with the numbers that are kept beside them
+pub record Areas : Type 0 where
+  pub points : List ℕ
+  pub columns : List ℕ
+  pub journal : List ℕ
+  pub kept : Kept
+
+-- a frame, any bytes, with all else that is handed over with it but the areas
+pub record Sent : Type 0 where
+  pub frame : List ℕ
+  pub axes : Axes
+  pub settings : Settings
+  pub reply : List ℕ
+
+pub record Call : Type 0 where
+  pub sent : Sent
+  pub areas : Areas
+
+-- what comes back; the reply's text is empty where there is none
+pub record Outcome : Type 0 where
+  pub number : ℕ
+  pub text : List ℕ
+  pub areas : Areas
+
+-- areas, what is sent, and a call, as they are handed over
+abbrev pub areasOf : List ℕ → List ℕ → List ℕ → Kept → Areas
+areasOf points columns journal kept = record { points = points; columns = columns; journal = journal; kept = kept }
+
+abbrev pub callOf : List ℕ → Axes → Settings → List ℕ → Areas → Call
+callOf frame axes settings reply areas = record { sent = record { frame = frame; axes = axes; settings = settings; reply = reply }; areas = areas }
+
+-- "Fresh is all zero bytes and used length 0", on a board that holds so much, with a journal of so many bytes
+abbrev pub fresh : Held → ℕ → Areas
+fresh held size =
+    areasOf (replicate (sizeOf (pointsOf held)) 0) (replicate (sizeOf columnsOf) 0) (replicate size 0) (record { used = 0 })
+
+-- the lengths of the areas that things are held in, and what a board holds by them
+abbrev pub lengthsOf : Areas → Lengths
+lengthsOf a = record { points = length (a .points); columns = length (a .columns) }
+
+abbrev pub heldIn : Lengths → Held
+heldIn l = heldBy (l .points)
+
+-- the area of a kind, by its tag
+abbrev pub areaIn : ℕ → Areas → List ℕ
+areaIn tag a = cond (eqb tag pointsTag) (a .points) (cond (eqb tag columnsTag) (a .columns) [])
+
+-- an entry's bytes put into the area of its kind
+abbrev pub putIn : Held → Entry → Areas → Areas
+putIn held e a = areasOf (puts (pointsOf held) e (a .points)) (puts columnsOf e (a .columns)) (a .journal) (a .kept)
+
+-- the journal's entries, oldest first, and the areas with other entries in it ("bytes beyond the used length are 00")
+abbrev pub entriesOf : Held → Areas → List Entry
+entriesOf held a = entriesIn held 0 (take (a .kept .used) (a .journal))
+
+abbrev pub withEntries : List Entry → Areas → Areas
+withEntries es a = areasOf (a .points) (a .columns) (areaOf (length (a .journal)) es) (record { used = length (encodes es) })
+
+-- an accepted write of a kind's run: "one entry" with "the old bytes of what was named" is added, the new bytes are put in
+abbrev pub oldEntry : Held → ℕ → ℕ → ℕ → Areas → Entry
+oldEntry held tag start count a = entryFor tag start (runOf (kindOf held tag) start count (areaIn tag a))
+
+abbrev pub written : Held → ℕ → ℕ → ℕ → List ℕ → Areas → Areas
+written held tag start count new a =
+    withEntries (added (length (a .journal)) (entriesOf held a) (oldEntry held tag start count a)) (putIn held (entryFor tag start new) a)
+
+-- "A step back puts the last entry's bytes back and removes it."
+abbrev pub steppedBack : Held → Areas → Areas
+steppedBack held a = withEntries (others (entriesOf held a)) (putIn held (lastEntry (entriesOf held a)) a)

@@ -1,0 +1,18 @@
+// What is handed over with a call beside the areas' bytes, and what is handed on from call to call (document 01, "The areas").
+
+// The board's settings.
+pub struct Settings {
+    pub station: u8,
+    pub fitted: u8,
+}
+
+// What is handed on from call to call.
+pub struct Kept {
+    pub used: usize,
+}
+
+// The lengths of the areas that things are held in: all that the tests ask of them.
+pub struct Lengths {
+    pub points: usize,
+    pub columns: usize,
+}

@@ -1,0 +1,112 @@
+-- The step back: what its tests assure, and what it leaves.
+use Prim.Native.Nat.{ℕ, zero, suc, _+_, _-_, _*_, _/_, _≤_, _<_}
+use mathlib.Core.Path.{_≡_, refl, sym, ap, ap₂, _∙_, subst}
+use mathlib.Core.Bool.{Bool, true, false, cond}
+use mathlib.Core.List.{List, _++_}
+use native.Mathlib.Omega.{arith}
+use lib.Dec.{eqb}
+use lib.ListN.{length, take, drop, replicate}
+use borrow.Author.Tests.{eqb-true, eqb-false}
+use Rattle.areas.specs.declared.kinds.Kind.{Kind}
+use Rattle.areas.specs.declared.kinds.Held.{Held}
+use Rattle.areas.specs.Kinds.{Sound, pointsTag, columnsTag, pointsOf, columnsOf, kindOf, sizeOf}
+use Rattle.areas.proofs.Known.{kind-points, kind-columns, tag-of, sized}
+use Rattle.journal.specs.Journal.{Entry, encodes, entriesIn, whole, areaOf, lastEntry, others, entryFits, puts, entryFor}
+use Rattle.journal.specs.Laws.{Holds, Good, Stands}
+use Rattle.journal.specs.declared.Last.{Last}
+use Rattle.journal.proofs.Codec.{Bytes}
+use Rattle.journal.proofs.Back.{holds-back}
+use Rattle.messages.specs.Rows.{firstOf}
+use Rattle.calls.specs.declared.Kept.{Kept}
+use Rattle.calls.specs.Calls.{Areas, Outcome, areasOf, lengthsOf, heldIn, steppedBack}
+use Rattle.refusals.specs.Refusals.{backRows, backRefusalOf}
+use Rattle.refusals.proofs.Rows.{AreasPass, areas-pass, back-rows}
+use Rattle.refusals.proofs.Tested.{Points, Journal, points-fit, journal-fits, sound}
+use Rattle.link.specs.declared.Back.{Back}
+use Rattle.link.specs.Answer.{unanswered, backOf}
+use Rattle.link.specs.Contract.{StepsBack}
+use Rattle.link.proofs.Answering.{refused-back, accepted-back}
+use Rattle.link.proofs.Outcomes.{same-areas}
+
+pub back-first : (a : Areas) → backRefusalOf a ≡ firstOf (backRows (lengthsOf a) (a .journal) (a .kept))
+unfolding backRefusalOf
+back-first a = refl
+
+-- the step back's tests, passed
+pub record CanStepBack (a : Areas) : Type 0 where
+  pub points : Points (length (a .points))
+  pub columns : length (a .columns) ≡ 700
+  pub journal : Journal (heldIn (lengthsOf a)) (a .journal) (a .kept .used)
+  pub used : 0 < a .kept .used
+  pub sound-held : Sound (heldIn (lengthsOf a))
+
+some-used : (k : ℕ) → _≡_ {A = ℕ} (cond (eqb k 0) 9 0) 0 → 0 < k
+some-used zero e = absurd (omega arith)
+some-used (suc k) e = omega arith
+
+pub can-step-back : (a : Areas) → backRefusalOf a ≡ 0 → CanStepBack a
+can-step-back a e =
+    let p = areas-pass (lengthsOf a) (a .journal) (a .kept) (sym (back-rows (lengthsOf a) (a .journal) (a .kept)) ∙ sym (back-first a) ∙ e) in
+    record {
+      points = points-fit (length (a .points)) (p .0 .points);
+      columns = eqb-true _ _ (p .0 .columns);
+      journal = journal-fits (heldIn (lengthsOf a)) (a .journal) (a .kept .used) (p .0 .journal-fits);
+      used = some-used (a .kept .used) (p .1);
+      sound-held = sound (length (a .points)) (p .0 .points);
+    }
+
+-- a refused one
+pub stepped-refused : (a : Areas) (k : ℕ) → k ≡ backRefusalOf a → (k ≡ 0 → ⊥) → StepsBack a (record { number = k; kept = a .kept }) a
+stepped-refused a k e n =
+    let q = refused-back a k e n in
+    record {
+      number-is = sym (ap (λ (o : Outcome). o .number) q);
+      kept-is = sym (ap (λ (o : Outcome). o .areas .kept) q);
+      areas-are = sym (ap (λ (o : Outcome). o .areas) q);
+    }
+
+-- what one of a kind's area needs, of a good entry
+pub restore-needs : (h : Held) (t : ℕ) {k : Kind} (tag start : ℕ) (old area : List ℕ) → Sound h → Good h (entryFor tag start old) → k ≡ kindOf h t
+    → length area ≡ sizeOf (kindOf h t) → ((length area ≡ sizeOf k) × (sizeOf k < 65536)) × (tag ≡ k .tag → entryFits k start (length old) ≡ true)
+restore-needs h t {k} tag start old area s g e l =
+    let z = sized h t s in (
+      (l ∙ ap sizeOf (sym e), omega (arith, z .small, ap sizeOf e)),
+      λ q.
+          let w : tag ≡ t = q ∙ ap (λ (x : Kind). x .tag) e ∙ tag-of h t in
+          subst (λ (x : Kind). entryFits x start (length old) ≡ true) (ap (kindOf h) w ∙ sym e) (g .well-formed),
+    )
+
+pub same-puts : {k k′ : Kind} {e e′ : Entry} {after : List ℕ} (area : List ℕ) → after ≡ puts k e area → k ≡ k′ → e ≡ e′ → after ≡ puts k′ e′ area
+same-puts area p k e = cc
+
+-- an accepted one: the last entry is found, put back and removed
+module _ (a : Areas) (z : backRefusalOf a ≡ 0) {h : Held} (e : h ≡ heldIn (lengthsOf a)) where
+  ok : CanStepBack a
+  ok = can-step-back a z
+
+  pub find-needs : (Sound h × (0 < a .kept .used) × (a .kept .used ≤ length (a .journal))) × (whole h 0 (take (a .kept .used) (a .journal)) ≡ true)
+  find-needs = rw e ((ok .sound-held, ok .used, ok .journal .within), ok .journal .entries)
+
+  module _ {l : Last} (s : Stands h (a .journal) (a .kept .used) l) where
+    abbrev old : List ℕ
+    old = take (a .kept .used - (l .at + 5)) (drop (l .at + 5) (a .journal))
+
+    pub put-needs : (Sound h × Good h (entryFor (l .tag) (l .start) old)) × ((length (a .points) ≡ sizeOf (pointsOf h)) × (length (a .columns) ≡ sizeOf columnsOf))
+    put-needs = (
+      (rw e (ok .sound-held), subst (Good h) (sym (s .entry)) (s .good)),
+      (rw e (omega (arith, ok .points .whole-slots)), ok .columns),
+    )
+
+    pub stepped : (bytes : Bytes (a .journal)) (r : Back) (points′ columns′ journal′ : List ℕ) → r .number ≡ 0 → r .kept .used ≡ l .at
+        → points′ ≡ puts (pointsOf h) (entryFor (l .tag) (l .start) old) (a .points) → columns′ ≡ puts columnsOf (entryFor (l .tag) (l .start) old) (a .columns)
+        → journal′ ≡ take (l .at) (a .journal) ++ replicate (length (a .journal) - l .at) 0 → StepsBack a r (areasOf points′ columns′ journal′ (r .kept))
+    stepped bytes r points′ columns′ journal′ n u p c j =
+        let q = accepted-back a z in
+        let w = holds-back h (a .journal) (a .kept .used) l bytes (ok .journal .within) (find-needs .1) s journal′ j in
+        let same =
+        same-areas (same-puts (a .points) p (ap pointsOf e) (s .entry ∙ ap (λ (x : Held). lastEntry (entriesIn x 0 (take (a .kept .used) (a .journal)))) e))
+        (same-puts (a .columns) c refl (s .entry ∙ ap (λ (x : Held). lastEntry (entriesIn x 0 (take (a .kept .used) (a .journal)))) e))
+        (w .bytes ∙ ap (λ (x : Held). areaOf (length (a .journal)) (others (entriesIn x 0 (take (a .kept .used) (a .journal))))) e)
+        (u ∙ w .used ∙ ap (λ (x : Held). length (encodes (others (entriesIn x 0 (take (a .kept .used) (a .journal)))))) e)
+        ∙ sym (ap (λ (o : Outcome). o .areas) q) in
+        record { number-is = n ∙ sym (ap (λ (o : Outcome). o .number) q); kept-is = ap (λ (x : Areas). x .kept) same; areas-are = same }

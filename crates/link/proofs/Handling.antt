@@ -1,0 +1,236 @@
+-- What each handler needs and says, of an order that was heard.
+use Prim.Native.Nat.{ℕ, _+_, _-_, _*_, _/_, _≤_, _<_, _^_}
+use mathlib.Core.Path.{_≡_, refl, sym, ap, ap₂, _∙_, subst}
+use mathlib.Core.Bool.{Bool, true, false, cond}
+use mathlib.Core.List.{List}
+use native.Mathlib.Omega.{arith}
+use lib.Bits.{bitAnd}
+use lib.Dec.{eqb}
+use lib.ListN.{length, take, drop, replicate, length-drop}
+use borrow.Author.Tests.{eqb-true}
+use Rattle.digits.specs.Digits.{allDigits, numberOf}
+use Rattle.digits.proofs.Inverse.{inverse}
+use Rattle.digits.proofs.Laid.{part-rest}
+use Rattle.frames.specs.Frame.{contentIn}
+use Rattle.areas.specs.declared.kinds.Kind.{Kind}
+use Rattle.areas.specs.declared.kinds.Held.{Held}
+use Rattle.areas.specs.Kinds.{pointsTag, columnsTag, pointsOf, columnsOf, kindOf, heldBy, holds, placeOf, sizeOf}
+use Rattle.areas.specs.Pairs.{bytesIn}
+use Rattle.areas.proofs.Known.{kind-points, kind-columns, within, room}
+use Rattle.points.specs.Point.{fillsOf, slotsOf}
+use Rattle.points.proofs.Parts.{all-drop}
+use Rattle.messages.specs.declared.table.Follows.the-variants.{TenBytes, AxisPattern, Points, RunBytes}
+use Rattle.messages.specs.declared.table.Action.{Action}
+use Rattle.messages.specs.declared.table.Action.the-variants.{SayBack, CountPoints, ListPoints, ReadRun, AxisStatus, WritePoints, ClearRun, ChangeRun}
+use Rattle.messages.specs.declared.table.Message.{Message}
+use Rattle.messages.specs.declared.Asked.the-variants.{Order}
+use Rattle.messages.specs.Table.{fieldsOf, restIn, followsRight, anyBytes, Narrow}
+use Rattle.messages.proofs.Shapes.{Shape}
+use Rattle.queries.specs.Replies.{sameText, countText, listText, runText, axesText, headOf}
+use Rattle.writes.specs.Writes.{Ready, Written}
+use Rattle.calls.specs.declared.Kept.{Kept}
+use Rattle.calls.specs.Calls.{Areas, Call, areasOf, areaIn, written}
+use Rattle.link.specs.Answer.{held, asked, rest, writes, newBytes, saidBy, areasAfter}
+use Rattle.link.specs.Contract.{Heard}
+use Rattle.link.proofs.Carrying.{Fine, fine, Judged, judged-so, Named, Writable, writable, content-long}
+use Rattle.link.proofs.Outcomes.{ready, same-areas, written-points, written-columns}
+
+module _ (c : Call) (m : Message) (start count : ℕ) (h : Heard c m start count) where
+  pub board : Fine c
+  board = fine c (h .silent-0)
+
+  pub content : Judged (held c) (contentIn (c .sent .frame)) m start count
+  content = judged-so (held c) (c .sent .settings .fitted) (c .sent .frame) m start count (h .order)
+
+  -- what follows the fields, as it is handed on
+  pub rest-is : {body : List ℕ} → body ≡ contentIn (c .sent .frame) → take (length body - fieldsOf m) (drop (fieldsOf m) body) ≡ rest c m
+  rest-is {body} e = part-rest body (fieldsOf m) ∙ ap (drop (fieldsOf m)) e
+
+  shape-of : {a : Action} → m .does ≡ a → Shape a m
+  shape-of e = subst (λ (a : Action). Shape a m) e (content .shape)
+
+  -- 200H
+  pub same-needs : {t : List ℕ} → m .does ≡ SayBack → t ≡ rest c m → (1024 ≤ length (c .sent .reply)) × (length t ≡ 10)
+  same-needs {t} d e =
+      let f : followsRight TenBytes (kindOf (held c) (m .tag) .unit) count (rest c m) ≡ true = rw (shape-of d .1) at (content .follows) in
+      (board .reply-long, ap length e ∙ eqb-true _ _ f)
+
+  pub same-said : {t : List ℕ} → m .does ≡ SayBack → t ≡ rest c m → sameText m t ≡ saidBy (m .does) c m start count
+  same-said d e = rw (d, e)
+
+  -- 208H
+  pub count-needs : {hd : Held} → hd ≡ held c → (1024 ≤ length (c .sent .reply)) × (length (c .areas .points) ≡ 40 * hd .points) × (hd .points ≤ 1500)
+  count-needs e = rw e (board .reply-long, board .points .whole-slots, board .points .most)
+
+  pub count-said : {hd : Held} → m .does ≡ CountPoints → hd ≡ held c → countText m (hd .points) (c .areas .points) ≡ saidBy (m .does) c m start count
+  count-said d e = rw (d, e)
+
+  -- a run's place
+  pub place-needs : {k : Kind} → 1 ≤ m .start → k ≡ kindOf (held c) (m .tag) → sizeOf (kindOf (held c) (m .tag)) < 65536 → (k .first ≤ start) × (placeOf k start < 2 ^ 63)
+  place-needs s e z =
+      let w = within (kindOf (held c) (m .tag)) start count (content .held-all s) in
+      let r = room (kindOf (held c) (m .tag)) start count (content .held-all s) in
+      rw e (w .0, omega (arith, r))
+
+  -- 209H
+  module _ (d : m .does ≡ ListPoints) where
+    kind-is : kindOf (held c) (m .tag) ≡ pointsOf (held c)
+    kind-is = ap (kindOf (held c)) (shape-of d .0) ∙ kind-points (held c)
+
+    inside : (1 ≤ start) × (start + count ≤ 1 + held c .points)
+    inside = let w = within (pointsOf (held c)) start count (subst (λ (x : Kind). holds x start count ≡ true) kind-is (content .held-all (shape-of d .1))) in (w .0, w .1)
+
+    pub list-place : {k : Kind} → k ≡ kindOf (held c) (m .tag) → (k .first ≤ start) × (placeOf k start < 2 ^ 63)
+    list-place e = rw (e ∙ kind-is) (inside .0, omega (arith, inside, board .points .most))
+
+    pub list-at : {k : Kind} {at : ℕ} → k ≡ kindOf (held c) (m .tag) → at ≡ placeOf k start → at ≡ (start - 1) * 40
+    list-at e f = f ∙ ap (λ (x : Kind). placeOf x start) (e ∙ kind-is)
+
+    pub list-room : {at : ℕ} → at ≡ (start - 1) * 40 → at + 40 * count ≤ length (c .areas .points)
+    list-room e = omega (arith, e, inside, board .points .whole-slots)
+
+    pub list-needs : {at : ℕ} → at ≡ (start - 1) * 40
+        → (1024 ≤ length (c .sent .reply)) × (start + count ≤ 1501) × (40 * count ≤ length (take (length (c .areas .points) - at) (drop at (c .areas .points))))
+    list-needs {at} e =
+        let r = list-room e in
+        (board .reply-long, omega (arith, inside, board .points .most), rw (part-rest (c .areas .points) at) (simp length-drop (omega arith)))
+
+    pub list-said : {at : ℕ} → at ≡ (start - 1) * 40
+        → listText m start count (take (length (c .areas .points) - at) (drop at (c .areas .points))) ≡ saidBy (m .does) c m start count
+    list-said {at} e = rw (d, part-rest (c .areas .points) at, e)
+
+  -- 210H
+  module _ (d : m .does ≡ ReadRun) where
+    column : kindOf (held c) (m .tag) ≡ columnsOf
+    column = ap (kindOf (held c)) (shape-of d .0 .0) ∙ kind-columns (held c)
+
+    pub run-needs : {k : Kind} → k ≡ kindOf (held c) (m .tag)
+        → (Narrow m × (1024 ≤ length (c .sent .reply)) × (k .first ≤ start) × (2 * (count * k .unit) ≤ 1000))
+        × ((length (c .areas .columns) ≡ sizeOf k) × (placeOf k start + count * k .unit ≤ sizeOf k) × (sizeOf k < 65536))
+    run-needs e =
+        let g = subst (λ (x : Kind). holds x start count ≡ true) column (content .held-all (shape-of d .0 .1)) in
+        let w = within columnsOf start count g in
+        let f = content .few (shape-of d .1) in
+        rw (e ∙ column) ((content .narrow, board .reply-long, w .0, omega (arith, f)), (board .columns, room columnsOf start count g, omega arith))
+
+    pub run-said : {k : Kind} → k ≡ kindOf (held c) (m .tag) → runText m k start count (c .areas .columns) ≡ saidBy (m .does) c m start count
+    run-said e =
+        let a : areaIn (m .tag) (c .areas) ≡ c .areas .columns = ap (λ (t : ℕ). areaIn t (c .areas)) (shape-of d .0 .0) in
+        rw (d, e, a)
+
+  -- 212H
+  module _ (d : m .does ≡ AxisStatus) {t : List ℕ} (e : t ≡ rest c m) where
+    pub two-digits : length t ≡ 2
+    two-digits =
+        let f : followsRight AxisPattern (kindOf (held c) (m .tag) .unit) count (rest c m) ≡ true = rw (shape-of d .1) at (content .follows) in
+        ap length e ∙ eqb-true _ _ f
+
+    pub one-byte : {n : ℕ} → n ≡ numberOf t → n < 256
+    one-byte q = let b = inverse 2 .bound t two-digits in omega (arith, b, q)
+
+    pub axes-said : {n : ℕ} → n ≡ numberOf t → axesText m (bitAnd n (c .sent .settings .fitted)) (c .sent .axes .records) ≡ saidBy (m .does) c m start count
+    axes-said q = rw (d, q, e)
+
+  -- the writes: the board can be written, and the run is stored
+  module _ (w : writes (m .does) ≡ true) where
+    pub run : Writable (held c) (contentIn (c .sent .frame)) m start count
+    run = writable (held c) (contentIn (c .sent .frame)) m start count content w
+
+    pub can-write : {hd : Held} {k : Kind} (area : List ℕ) → hd ≡ held c → k ≡ kindOf (held c) (m .tag) → length area ≡ sizeOf (kindOf (held c) (m .tag))
+        → Ready hd k start count area (c .areas .journal) (c .areas .kept .used)
+    can-write area e f l = rw (e, f) (ready c (m .tag) start count area board (run .run) l)
+
+    points-long : m .tag ≡ pointsTag → length (c .areas .points) ≡ sizeOf (kindOf (held c) (m .tag))
+    points-long t = omega (arith, board .points .whole-slots) ∙ ap sizeOf (sym (ap (kindOf (held c)) t ∙ kind-points (held c)))
+
+    columns-long : m .tag ≡ columnsTag → length (c .areas .columns) ≡ sizeOf (kindOf (held c) (m .tag))
+    columns-long t = board .columns ∙ ap sizeOf (sym (ap (kindOf (held c)) t ∙ kind-columns (held c)))
+
+    module _ {hd : Held} {k : Kind} (new area′ journal′ : List ℕ) (kept′ : Kept) (left : ℕ) (e : hd ≡ held c) (f : k ≡ kindOf (held c) (m .tag))
+        (n : new ≡ newBytes (m .does) (kindOf (held c) (m .tag) .unit) count (rest c m)) (u : kept′ .used ≡ left) where
+      after : areasAfter c (Order m start count) ≡ written (held c) (m .tag) start count new (c .areas)
+      after = rw w (ap (λ (x : List ℕ). written (held c) (m .tag) start count x (c .areas)) (sym n))
+
+      pub stored-points : m .tag ≡ pointsTag → Written hd k start count new (c .areas .points) area′ (c .areas .journal) journal′ (c .areas .kept .used) left
+          → areasOf area′ (c .areas .columns) journal′ kept′ ≡ areasAfter c (Order m start count)
+      stored-points t x =
+          written-points (c .areas) (held c) start count new area′ journal′ kept′ (rw (e, f, t, ← u) at x)
+          ∙ ap (λ (y : ℕ). written (held c) y start count new (c .areas)) (sym t)
+          ∙ sym after
+
+      pub stored-columns : m .tag ≡ columnsTag → Written hd k start count new (c .areas .columns) area′ (c .areas .journal) journal′ (c .areas .kept .used) left
+          → areasOf (c .areas .points) area′ journal′ kept′ ≡ areasAfter c (Order m start count)
+      stored-columns t x =
+          written-columns (c .areas) (held c) start count new area′ journal′ kept′ (rw (e, f, t, ← u) at x)
+          ∙ ap (λ (y : ℕ). written (held c) y start count new (c .areas)) (sym t)
+          ∙ sym after
+
+  -- 244H
+  module _ (d : m .does ≡ WritePoints) where
+    pub writes-points : writes (m .does) ≡ true
+    writes-points = rw d
+
+    pub points-tag : m .tag ≡ pointsTag
+    points-tag = shape-of d .0 .0
+
+    pub points-needs : {hd : Held} {k : Kind} {t : List ℕ} → hd ≡ held c → k ≡ kindOf (held c) (m .tag) → t ≡ rest c m
+        → ((k .unit ≡ 40) × (allDigits t ≡ true) × (fillsOf count t ≡ true)) × Ready hd k start count (c .areas .points) (c .areas .journal) (c .areas .kept .used)
+    points-needs {hd} {k} {t} e f g =
+        let fill : followsRight Points (kindOf (held c) (m .tag) .unit) count (rest c m) ≡ true = rw (shape-of d .1) at (content .follows) in
+        let ds : allDigits (contentIn (c .sent .frame)) ≡ true = content .digits (rw (shape-of d .1)) in (
+          (
+            ap (λ (x : Kind). x .unit) (f ∙ ap (kindOf (held c)) points-tag ∙ kind-points (held c)),
+            ap allDigits g ∙ all-drop (fieldsOf m) (contentIn (c .sent .frame)) ds,
+            ap (fillsOf count) g ∙ fill,
+          ),
+          can-write writes-points (c .areas .points) e f (points-long writes-points points-tag),
+        )
+
+    pub points-new : {t : List ℕ} → t ≡ rest c m → slotsOf count t ≡ newBytes (m .does) (kindOf (held c) (m .tag) .unit) count (rest c m)
+    points-new g = rw (d, g)
+
+    pub points-said : headOf m start count ≡ saidBy (m .does) c m start count
+    points-said = rw d
+
+  -- 246H
+  module _ (d : m .does ≡ ClearRun) where
+    pub writes-clear : writes (m .does) ≡ true
+    writes-clear = rw d
+
+    pub clear-tag : m .tag ≡ pointsTag
+    clear-tag = shape-of d .0
+
+    pub clear-needs : {hd : Held} {k : Kind} → hd ≡ held c → k ≡ kindOf (held c) (m .tag) → Ready hd k start count (c .areas .points) (c .areas .journal) (c .areas .kept .used)
+    clear-needs e f = can-write writes-clear (c .areas .points) e f (points-long writes-clear clear-tag)
+
+    pub clear-new : {k : Kind} → k ≡ kindOf (held c) (m .tag) → replicate (count * k .unit) 0 ≡ newBytes (m .does) (kindOf (held c) (m .tag) .unit) count (rest c m)
+    clear-new f = rw (d, f)
+
+    pub clear-said : headOf m start count ≡ saidBy (m .does) c m start count
+    clear-said = rw d
+
+  -- 24EH
+  module _ (d : m .does ≡ ChangeRun) where
+    pub writes-change : writes (m .does) ≡ true
+    writes-change = rw d
+
+    pub change-tag : m .tag ≡ columnsTag
+    change-tag = shape-of d .0 .0
+
+    pub change-needs : {hd : Held} {k : Kind} {t : List ℕ} → hd ≡ held c → k ≡ kindOf (held c) (m .tag) → t ≡ rest c m
+        → ((allDigits t ≡ true) × (length t ≡ 2 * (count * k .unit))) × Ready hd k start count (c .areas .columns) (c .areas .journal) (c .areas .kept .used)
+    change-needs {hd} {k} {t} e f g =
+        let long : followsRight RunBytes (kindOf (held c) (m .tag) .unit) count (rest c m) ≡ true = rw (shape-of d .2) at (content .follows) in
+        let ds : allDigits (contentIn (c .sent .frame)) ≡ true = content .digits (rw (shape-of d .2)) in (
+          (
+            ap allDigits g ∙ all-drop (fieldsOf m) (contentIn (c .sent .frame)) ds,
+            ap length g ∙ eqb-true _ _ long ∙ ap (λ (x : Kind). 2 * (count * x .unit)) (sym f),
+          ),
+          can-write writes-change (c .areas .columns) e f (columns-long writes-change change-tag),
+        )
+
+    pub change-new : {t : List ℕ} → t ≡ rest c m → bytesIn t ≡ newBytes (m .does) (kindOf (held c) (m .tag) .unit) count (rest c m)
+    change-new g = rw (d, g)
+
+    pub change-said : headOf m start count ≡ saidBy (m .does) c m start count
+    change-said = rw d

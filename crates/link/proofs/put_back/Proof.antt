@@ -1,0 +1,41 @@
+use mathlib.Core.Path.{_≡_, refl, sym, ap, _∙_}
+use native.Mathlib.Omega.{arith}
+use Rattle.areas.specs.Kinds.{pointsTag, columnsTag, sizeOf}
+use Rattle.areas.proofs.Known.{kind-points, kind-columns}
+use Rattle.link.proofs.Backing.{restore-needs, same-puts}
+use borrow.Author.Needs.{needs}
+use Rattle.link.proofs.put_back.Statement.{statement}
+use Rattle.link.proofs.put_back.Tie as tie
+
+kind-requires : tie.Need-kind-requires
+kind-requires c κs = search needs
+
+restore-requires : tie.Need-restore-requires
+restore-requires c κs = let s = c .before .before .before .before .before in restore-needs (s .args .held) pointsTag _ _ _ (s .args .points .now) (s .pre .0 .0) (s .pre .0 .1) (c .kind .ensures) (s .pre .1 .0 ∙ ap sizeOf (sym (kind-points (s .args .held))))
+
+kind-requires-2 : tie.Need-kind-requires-2
+kind-requires-2 c κs = search needs
+
+restore-requires-2 : tie.Need-restore-requires-2
+restore-requires-2 c κs = let s = c .before .before .before .before .before .before .before .before .before .before in restore-needs (s .args .held) columnsTag _ _ _ (s .args .columns .now) (s .pre .0 .0) (s .pre .0 .1) (c .kind2 .ensures) (s .pre .1 .1 ∙ ap sizeOf (sym (kind-columns (s .args .held))))
+
+same-length : tie.Need-same-length
+same-length c = search needs
+
+same-length-2 : tie.Need-same-length-2
+same-length-2 c = search needs
+
+returns : tie.Need-returns
+returns c = let s = c .before .before .before .before .before .before .before .before .before .before .before .before .before in (same-puts _ (c .before .before .before .before .before .before .before .restore .ensures) (c .before .before .before .before .before .before .before .before .kind .ensures ∙ kind-points (s .args .held)) refl, same-puts _ (c .before .before .restore2 .ensures) (c .before .before .before .kind2 .ensures ∙ kind-columns (s .args .held)) refl)
+
+pub put-back-spec : {M : Type 1} → statement M
+put-back-spec =
+    tie.close
+    (tie.spec
+    kind-requires
+    restore-requires
+    kind-requires-2
+    restore-requires-2
+    same-length
+    same-length-2
+    returns)

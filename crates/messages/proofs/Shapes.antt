@@ -1,0 +1,84 @@
+-- What the table's rows have in common, and what each action's rows have.
+use Prim.Native.Nat.{ℕ, _≤_}
+use mathlib.Core.Path.{_≡_, refl, subst}
+use mathlib.Core.Bool.{Bool, true, false, cond}
+use mathlib.Core.List.{List, [], _∷_}
+use native.Mathlib.Omega.{arith}
+use lib.Dec.{eqb}
+use Rattle.digits.specs.Digits.{allDigits, numberOf}
+use Rattle.frames.specs.Frame.{messageIn}
+use Rattle.areas.specs.Kinds.{pointsTag, columnsTag}
+use Rattle.messages.specs.declared.table.Follows.the-variants.{TenBytes, AxisPattern, Points, RunBytes}
+use Rattle.messages.specs.declared.table.Action.{Action}
+use Rattle.messages.specs.declared.table.Action.the-variants.{SayBack, CountPoints, ListPoints, ReadRun, AxisStatus, WritePoints, ClearRun, ChangeRun}
+use Rattle.messages.specs.declared.table.Message.{Message}
+use Rattle.messages.specs.declared.table.Named.{Named}
+use Rattle.messages.specs.declared.table.Named.the-variants.{Known, Unknown}
+use Rattle.messages.specs.Table.{messages, namedIn, messageNumbered, messageOf, fieldsOf, Narrow}
+
+-- what holds of each row holds of the one that is found
+abbrev pub Each : (Message → Type 0) → List Message → Type 0
+Each P [] = Unit
+Each P (m ∷ ms) = P m × Each P ms
+
+module _ (P : Message → Type 0) where
+  pub found : (id : ℕ) (ms : List Message) {m : Message} → Each P ms → namedIn id ms ≡ Known m → P m
+  found id [] h e = absurd (let z : _≡_ {A = ℕ} 0 1 = cc in omega arith)
+  found id (k ∷ ms) {m} h e = go (eqb id (k .id)) (λ f. found id ms (h .1) f) e
+    where
+      go : (b : Bool) → (namedIn id ms ≡ Known m → P m) → cond b (Known k) (namedIn id ms) ≡ Known m → P m
+      go true g f = let q : k ≡ m = cc in subst P q (h .0)
+      go false g f = g f
+
+  pub in-frame : (frame : List ℕ) {m : Message} → Each P messages → messageOf frame ≡ Known m → P m
+  unfolding messageOf messageNumbered
+  in-frame frame {m} h e = go (allDigits (messageIn frame)) e
+    where
+      go : (b : Bool) → cond b (namedIn (numberOf (messageIn frame)) messages) Unknown ≡ Known m → P m
+      go true f = found (numberOf (messageIn frame)) messages h f
+      go false f = absurd (let z : _≡_ {A = ℕ} 0 1 = cc in omega arith)
+
+-- a message that names a run of a kind by start and count
+abbrev Names : ℕ → Message → Type 0
+Names tag m = (m .tag ≡ tag) × (1 ≤ m .start) × (1 ≤ m .count)
+
+abbrev pub Shape : Action → Message → Type 0
+Shape SayBack m = (fieldsOf m ≡ 0) × (m .follows ≡ TenBytes)
+Shape CountPoints m = Unit
+Shape ListPoints m = Names pointsTag m
+Shape ReadRun m = Names columnsTag m × (m .count ≡ 2)
+Shape AxisStatus m = (fieldsOf m ≡ 0) × (m .follows ≡ AxisPattern)
+Shape WritePoints m = Names pointsTag m × (m .follows ≡ Points)
+Shape ClearRun m = Names pointsTag m
+Shape ChangeRun m = Names columnsTag m × (m .count ≡ 2) × (m .follows ≡ RunBytes)
+
+pub record Shaped (m : Message) : Type 0 where
+  pub narrow : Narrow m
+  pub shape : Shape (m .does) m
+
+pub each-shaped : Each Shaped messages
+each-shaped = (
+  record { narrow = record { program = omega arith; start = omega arith; count = omega arith }; shape = (refl, refl) },
+  (
+    record { narrow = record { program = omega arith; start = omega arith; count = omega arith }; shape = tt },
+    (
+      record { narrow = record { program = omega arith; start = omega arith; count = omega arith }; shape = (refl, omega arith, omega arith) },
+      (
+        record { narrow = record { program = omega arith; start = omega arith; count = omega arith }; shape = ((refl, omega arith, omega arith), refl) },
+        (
+          record { narrow = record { program = omega arith; start = omega arith; count = omega arith }; shape = (refl, refl) },
+          (
+            record { narrow = record { program = omega arith; start = omega arith; count = omega arith }; shape = ((refl, omega arith, omega arith), refl) },
+            (
+              record { narrow = record { program = omega arith; start = omega arith; count = omega arith }; shape = (refl, omega arith, omega arith) },
+              (record { narrow = record { program = omega arith; start = omega arith; count = omega arith }; shape = ((refl, omega arith, omega arith), refl, refl) }, tt),
+            ),
+          ),
+        ),
+      ),
+    ),
+  ),
+)
+
+pub shaped : (frame : List ℕ) (m : Message) → messageOf frame ≡ Known m → Shaped m
+shaped frame m e = in-frame Shaped frame each-shaped e

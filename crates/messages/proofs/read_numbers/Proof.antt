@@ -1,0 +1,69 @@
+use mathlib.Core.Path.{_≡_, refl, sym, ap, _∙_}
+use native.Mathlib.Omega.{arith}
+use native.Mathlib.Nat.{add-sub-cancel-left}
+use lib.ListN.{length, take, length-take}
+use lib.Seq.{length-take-le}
+use borrow.Author.Needs.{needs}
+use Rattle.messages.proofs.read_numbers.Statement.{statement}
+use Rattle.messages.proofs.read_numbers.Tie as tie
+
+add-s : tie.Need-add-s
+add-s c = search needs
+
+add-c : tie.Need-add-c
+add-c c = search needs
+
+slice-aggregate-small : tie.Need-slice-aggregate-small
+slice-aggregate-small c = let s = c .before .before .before .before in sym (length-take-le (s .args .m .program) (s .args .content .now) (omega arith))
+
+small-requires : tie.Need-small-requires
+small-requires c κs = let s = c .before .before .before .before in rw (length-take-le (s .args .m .program) (s .args .content .now) (omega arith)) (s .pre .0 .program)
+
+sub-small : tie.Need-sub-small
+sub-small c = search needs
+
+part-small-start : tie.Need-part-small-start
+part-small-start c = search needs
+
+part-small-end : tie.Need-part-small-end
+part-small-end c = search needs
+
+small-requires-2 : tie.Need-small-requires-2
+small-requires-2 c κs = search needs
+
+sub-small-2 : tie.Need-sub-small-2
+sub-small-2 c = search needs
+
+part-small-start-2 : tie.Need-part-small-start-2
+part-small-start-2 c = search needs
+
+part-small-end-2 : tie.Need-part-small-end-2
+part-small-end-2 c = search needs
+
+small-requires-3 : tie.Need-small-requires-3
+small-requires-3 c κs = search needs
+
+returns : tie.Need-returns
+returns c =
+    let p = c .before .before .before .before .small .ensures in
+    let s = c .before .before .small2 .ensures in
+    let k = c .small3 .ensures in
+    ((p .0, rw add-sub-cancel-left at (s .0), rw add-sub-cancel-left at (k .0)), (s .1, k .1))
+
+pub read-numbers-spec : {M : Type 1} → statement M
+read-numbers-spec =
+    tie.close
+    (tie.spec
+    add-s
+    add-c
+    slice-aggregate-small
+    small-requires
+    sub-small
+    part-small-start
+    part-small-end
+    small-requires-2
+    sub-small-2
+    part-small-start-2
+    part-small-end-2
+    small-requires-3
+    returns)

@@ -1,0 +1,41 @@
+use mathlib.Core.Path.{_≡_, refl, sym, ap, _∙_}
+use native.Mathlib.Omega.{arith}
+use Rattle.digits.proofs.Bools.{was-false, was-true}
+use Rattle.refusals.proofs.Rows.{area-2, area-3, area-4, area-0}
+use Rattle.refusals.proofs.Tested.{sound, same-sound, same-journal}
+use borrow.Author.Needs.{needs}
+use Rattle.refusals.proofs.area_refusal.Statement.{statement}
+use Rattle.refusals.proofs.area_refusal.Tie as tie
+
+fits-points-requires : tie.Need-fits-points-requires
+fits-points-requires c κs = search needs
+
+returns : tie.Need-returns
+returns c = let a = c .before .before .before .args in area-2 (a .lengths) (a .journal .now) (a .kept) (was-false (c .before .fits-points .ensures) (c .if1 .taken))
+
+returns-2 : tie.Need-returns-2
+returns-2 c = let a = c .before .before .before .before .before .args in area-3 (a .lengths) (a .journal .now) (a .kept) (was-true (c .before .before .before .fits-points .ensures) (c .before .before .if1 .left)) (c .if2 .taken)
+
+by-requires : tie.Need-by-requires
+by-requires c κs = search needs
+
+fits-journal-requires : tie.Need-fits-journal-requires
+fits-journal-requires c κs = same-sound (c .by .ensures) (sound _ (was-true (c .before .before .before .before .fits-points .ensures) (c .before .before .before .if1 .left)))
+
+returns-3 : tie.Need-returns-3
+returns-3 c = let a = c .before .before .before .before .before .before .before .before .args in area-4 (a .lengths) (a .journal .now) (a .kept) (was-true (c .before .before .before .before .before .before .fits-points .ensures) (c .before .before .before .before .before .if1 .left)) (c .before .before .before .if2 .left) (was-false (same-journal _ _ (c .before .fits-journal .ensures) (c .before .before .by .ensures)) (c .if3 .taken))
+
+returns-4 : tie.Need-returns-4
+returns-4 c = let a = c .before .before .before .before .before .before .before .before .args in area-0 (a .lengths) (a .journal .now) (a .kept) (was-true (c .before .before .before .before .before .before .fits-points .ensures) (c .before .before .before .before .before .if1 .left)) (c .before .before .before .if2 .left) (was-true (same-journal _ _ (c .before .fits-journal .ensures) (c .before .before .by .ensures)) (c .if3 .left))
+
+pub area-refusal-spec : {M : Type 1} → statement M
+area-refusal-spec =
+    tie.close
+    (tie.spec
+    fits-points-requires
+    returns
+    returns-2
+    by-requires
+    fits-journal-requires
+    returns-3
+    returns-4)
