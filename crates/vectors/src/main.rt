@@ -1,4 +1,5 @@
 // Plays the second program's cases (second/README.md, "Vectors"), and writes a line for each call.
+use axes::AxisRecord;
 use axes::read_axes;
 use calls::Kept;
 use calls::Settings;
@@ -8,9 +9,10 @@ use finder::find;
 use io::print_decimal;
 use libc::STDIN_FILENO;
 use libc::STDOUT_FILENO;
+use link::Answered;
 use link::answer;
+use link::answer_lent;
 use link::step_back;
-ghost use mathlib.Core.Path.{_≡_};
 ghost use Prim.Native.Nat.{_+_, _≤_, _<_};
 ghost use lib.ListN.{length};
 
@@ -113,6 +115,57 @@ fn say_areas(points: &[u8], columns: &[u8], journal: &[u8]) {
     say_digest(journal);
 }
 
+// The records lent as one run, as the motion board lends them.
+fn answer_run(
+    frame: &[u8],
+    points: &mut [u8],
+    columns: &mut [u8],
+    journal: &mut [u8],
+    kept: Kept,
+    records: [AxisRecord; 8],
+    settings: Settings,
+    reply: &mut [u8],
+) -> Answered {
+    answer_lent(
+        frame,
+        points,
+        columns,
+        journal,
+        kept,
+        &records,
+        settings,
+        reply,
+    )
+}
+
+// The records go as a lent run where there are eight of them.
+fn answer_frame(
+    frame: &[u8],
+    points: &mut [u8],
+    columns: &mut [u8],
+    journal: &mut [u8],
+    kept: Kept,
+    axes: &[u8],
+    settings: Settings,
+    reply: &mut [u8],
+) -> Answered {
+    let read = read_axes(axes);
+    if read.eight {
+        let records = read.records;
+        return answer_run(
+            frame,
+            points,
+            columns,
+            journal,
+            kept,
+            records,
+            settings,
+            reply,
+        );
+    }
+    answer(frame, points, columns, journal, kept, read, settings, reply)
+}
+
 // One frame answered; the used length.
 fn play_frame(
     frame: &[u8],
@@ -125,13 +178,13 @@ fn play_frame(
     used: usize,
 ) -> usize {
     let kept = Kept { used };
-    let answered = answer(
+    let answered = answer_frame(
         frame,
         &mut *points,
         &mut *columns,
         &mut *journal,
         kept,
-        read_axes(axes),
+        axes,
         settings,
         &mut *reply,
     );

@@ -1,14 +1,9 @@
-use native.Mathlib.Omega.{arith}
-use Prim.Native.Nat.{ℕ, _+_, _-_, _*_, _%_, _≤_, _<_}
+use Prim.Native.Nat.{_≤_}
 use mathlib.Core.Path.{_≡_}
-use lib.ListN.{length, length-take}
+use lib.ListN.{length}
 use borrow.Author.Needs.{needs}
 use Rattle.vectors.proofs.play_all.Statement.{statement}
 use Rattle.vectors.proofs.play_all.Tie as tie
-use Rattle.vectors.proofs.play_all.Reads as reads
-use Rattle.vectors.proofs.play_all.Lts as lts
-use Rattle.vectors.proofs.play.Reads as play-reads
-use Rattle.vectors.proofs.size.Reads as size-reads
 
 abbrev Inv-loop : tie.InvT-loop
 Inv-loop operations points₀ columns₀ journal₀ reply₀ axes₀ board₀ at₀ turns₀ points columns journal reply axes board at turns = (at ≤ length operations) × (length points ≡ length points₀) × (length columns ≡ length columns₀) × (length journal ≡ length journal₀) × (length reply ≡ length reply₀) × (length axes ≡ length axes₀)
@@ -16,135 +11,102 @@ Inv-loop operations points₀ columns₀ journal₀ reply₀ axes₀ board₀ at
 abbrev μ-loop : tie.MeasureT-loop
 μ-loop operations points₀ columns₀ journal₀ reply₀ axes₀ board₀ at₀ turns₀ points columns journal reply axes board at turns = turns
 
--- src/main.rt:383:5
 loop-holds : tie.Need-loop-holds Inv-loop μ-loop
 loop-holds c = search needs
 
--- src/main.rt:384:22
 sub-size : tie.Need-sub-size Inv-loop μ-loop
 sub-size c = search needs
 
--- src/main.rt:384:22
 part-size-start : tie.Need-part-size-start Inv-loop μ-loop
 part-size-start c = search needs
 
--- src/main.rt:384:22
 part-size-end : tie.Need-part-size-end Inv-loop μ-loop
 part-size-end c = search needs
 
--- src/main.rt:384:13
 size-requires : tie.Need-size-requires Inv-loop μ-loop
 size-requires c κs = search needs
 
--- src/main.rt:386:13
 same-length : tie.Need-same-length Inv-loop μ-loop
 same-length c = search needs
 
--- src/main.rt:386:13
 same-length-2 : tie.Need-same-length-2 Inv-loop μ-loop
 same-length-2 c = search needs
 
--- src/main.rt:386:13
 same-length-3 : tie.Need-same-length-3 Inv-loop μ-loop
 same-length-3 c = search needs
 
--- src/main.rt:386:13
 same-length-4 : tie.Need-same-length-4 Inv-loop μ-loop
 same-length-4 c = search needs
 
--- src/main.rt:386:13
 same-length-5 : tie.Need-same-length-5 Inv-loop μ-loop
 same-length-5 c = search needs
 
--- src/main.rt:386:13
 returns : tie.Need-returns Inv-loop μ-loop
 returns c = search needs
 
--- src/main.rt:388:12
 sub-if2 : tie.Need-sub-if2 Inv-loop μ-loop
 sub-if2 c = search needs
 
--- src/main.rt:389:13
 same-length-6 : tie.Need-same-length-6 Inv-loop μ-loop
 same-length-6 c = search needs
 
--- src/main.rt:389:13
 same-length-7 : tie.Need-same-length-7 Inv-loop μ-loop
 same-length-7 c = search needs
 
--- src/main.rt:389:13
 same-length-8 : tie.Need-same-length-8 Inv-loop μ-loop
 same-length-8 c = search needs
 
--- src/main.rt:389:13
 same-length-9 : tie.Need-same-length-9 Inv-loop μ-loop
 same-length-9 c = search needs
 
--- src/main.rt:389:13
 same-length-10 : tie.Need-same-length-10 Inv-loop μ-loop
 same-length-10 c = search needs
 
--- src/main.rt:389:13
 returns-2 : tie.Need-returns-2 Inv-loop μ-loop
 returns-2 c = search needs
 
--- src/main.rt:392:29
 add-play : tie.Need-add-play Inv-loop μ-loop
 add-play c = search needs
 
--- src/main.rt:392:13
 sub-play : tie.Need-sub-play Inv-loop μ-loop
 sub-play c = search needs
 
--- src/main.rt:392:13
 part-play-start : tie.Need-part-play-start Inv-loop μ-loop
 part-play-start c = search needs
 
--- src/main.rt:392:13
 part-play-end : tie.Need-part-play-end Inv-loop μ-loop
 part-play-end c = search needs
 
--- src/main.rt:391:9
 play-requires : tie.Need-play-requires Inv-loop μ-loop
 play-requires c κs = search needs
 
--- src/main.rt:400:9
 add-at : tie.Need-add-at Inv-loop μ-loop
 add-at c = search needs
 
--- src/main.rt:401:9
 sub-turns : tie.Need-sub-turns Inv-loop μ-loop
 sub-turns c = search needs
 
--- src/main.rt:383:5
 loop-less : tie.Need-loop-less Inv-loop μ-loop
 loop-less c = search needs
 
--- src/main.rt:383:5
 loop-again : tie.Need-loop-again Inv-loop μ-loop
 loop-again c = search needs
 
--- src/main.rt:363:1
 same-length-11 : tie.Need-same-length-11 Inv-loop μ-loop
 same-length-11 c = search needs
 
--- src/main.rt:363:1
 same-length-12 : tie.Need-same-length-12 Inv-loop μ-loop
 same-length-12 c = search needs
 
--- src/main.rt:363:1
 same-length-13 : tie.Need-same-length-13 Inv-loop μ-loop
 same-length-13 c = search needs
 
--- src/main.rt:363:1
 same-length-14 : tie.Need-same-length-14 Inv-loop μ-loop
 same-length-14 c = search needs
 
--- src/main.rt:363:1
 same-length-15 : tie.Need-same-length-15 Inv-loop μ-loop
 same-length-15 c = search needs
 
--- src/main.rt:363:1
 returns-3 : tie.Need-returns-3 Inv-loop μ-loop
 returns-3 c = search needs
 

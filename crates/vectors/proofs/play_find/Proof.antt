@@ -5,67 +5,49 @@ use Rattle.finder.proofs.Finding.{within}
 use borrow.Author.Needs.{needs}
 use Rattle.vectors.proofs.play_find.Statement.{statement}
 use Rattle.vectors.proofs.play_find.Tie as tie
-use Rattle.vectors.proofs.play_find.Reads as reads
-use Rattle.vectors.proofs.play_find.Lts as lts
-use Rattle.finder.proofs.find.Reads as find-reads
-use Rattle.vectors.proofs.say_found.Reads as say-found-reads
 
--- src/main.rt:164:9
 find-requires : tie.Need-find-requires
 find-requires c κs = search needs
 
--- src/main.rt:166:24
 enum-known-found : tie.Need-enum-known-found
 enum-known-found c = search needs
 
--- src/main.rt:166:61
 sub-say-found : tie.Need-sub-say-found
 sub-say-found c =
     let r = c .before .before .before .before .before .args .received .now in
     let w : (c .before .found .given .0 .0 ≤ c .before .found .given .0 .1 .0) × (c .before .found .given .0 .1 .0 ≤ length r) = rw (sym (c .before .before .before .find .ensures) ∙ c .before .found .given .1) at (within r) in
     w .0
 
--- src/main.rt:166:41
 say-found-requires : tie.Need-say-found-requires
 say-found-requires c κs = search needs
 
--- src/main.rt:167:26
 enum-known-found-2 : tie.Need-enum-known-found-2
 enum-known-found-2 c = search needs
 
--- src/main.rt:167:36
 say-found-requires-2 : tie.Need-say-found-requires-2
 say-found-requires-2 c κs = search needs
 
--- src/main.rt:168:23
 enum-known-found-3 : tie.Need-enum-known-found-3
 enum-known-found-3 c = search needs
 
--- src/main.rt:168:33
 say-found-requires-3 : tie.Need-say-found-requires-3
 say-found-requires-3 c κs = search needs
 
--- src/main.rt:169:26
 enum-known-found-4 : tie.Need-enum-known-found-4
 enum-known-found-4 c = search needs
 
--- src/main.rt:169:36
 say-found-requires-4 : tie.Need-say-found-requires-4
 say-found-requires-4 c κs = search needs
 
--- src/main.rt:163:1
 returns : tie.Need-returns
 returns c = search needs
 
--- src/main.rt:163:1
 returns-2 : tie.Need-returns-2
 returns-2 c = search needs
 
--- src/main.rt:163:1
 returns-3 : tie.Need-returns-3
 returns-3 c = search needs
 
--- src/main.rt:163:1
 returns-4 : tie.Need-returns-4
 returns-4 c = search needs
 
