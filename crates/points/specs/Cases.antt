@@ -3,13 +3,12 @@ use Prim.Native.Nat.{ℕ}
 use mathlib.Core.Path.{_≡_}
 use mathlib.Core.Bool.{true, false}
 use mathlib.Core.List.{List, [], _∷_, _++_}
-use lib.IntN.{pos, negsuc}
-use lib.ListN.{length, take, drop, replicate}
-use Rattle.digits.specs.Digits.{digitsOf}
+use lib.IntN.{negsuc}
+use lib.ListN.{drop, replicate}
 use Rattle.digits.specs.Text.{text}
 use Rattle.points.specs.Units.{position}
 use Rattle.points.specs.Axes.{axesOf}
-use Rattle.points.specs.Point.{positionOf, pointOf, fillsOf, slotOf, pointDigits, effectiveIn}
+use Rattle.points.specs.Point.{positionOf, pointOf, fillsOf, slotOf, pointDigits}
 
 -- Bench listing, the second frame's point: axes 1 and 2, 0.30 G both, 100 mm/sec, 50.000 mm and -0.001 mm
 abbrev pub benchDigits : List ℕ

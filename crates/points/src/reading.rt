@@ -1,4 +1,4 @@
-use crate::axes::ones;
+use crate::patterns::ones;
 use crate::point::Point;
 use crate::units::Acceleration;
 use crate::units::Position;

@@ -6,7 +6,7 @@ use axes::AxisRecord;
 use digits::put_number;
 use frames::replies::close_reply;
 use messages::table::Message;
-use points::axes::ones;
+use points::patterns::ones;
 use points::point::Point;
 use slots::count_effective;
 use slots::listing::put_point_digits;

@@ -1,8 +1,8 @@
 use mathlib.Core.Path.{_≡_, refl, sym, ap, _∙_}
 use native.Mathlib.Omega.{arith}
 use Rattle.points.proofs.Ones.{as-many, at-most}
-use Rattle.points.proofs.axes.ones.Statement.{statement}
-use Rattle.points.proofs.axes.ones.Tie as tie
+use Rattle.points.proofs.patterns.ones.Statement.{statement}
+use Rattle.points.proofs.patterns.ones.Tie as tie
 
 cast-result : tie.Need-cast-result
 cast-result c = omega (arith, as-many (c .args .pattern) (omega arith), at-most (c .args .pattern) (omega arith))
