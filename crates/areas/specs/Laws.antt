@@ -6,7 +6,7 @@ use mathlib.Core.List.{List}
 use lib.ListN.{length, getD}
 use Rattle.digits.specs.Digits.{allDigits}
 use Rattle.areas.specs.declared.kinds.Kind.{Kind}
-use Rattle.areas.specs.Kinds.{runOf, put, placeOf, sizeOf}
+use Rattle.areas.specs.Kinds.{runOf, put, placeOf}
 use Rattle.areas.specs.Pairs.{bytesIn, digitsIn}
 
 -- Demand 2, codes "survive writing and reading back with every digit": pairs of digits, as bytes and back, are the very digits

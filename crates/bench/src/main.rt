@@ -9,7 +9,6 @@ use finder::frame_in;
 use libc::STDIN_FILENO;
 use libc::STDOUT_FILENO;
 use link::answer;
-ghost use mathlib.Core.Path.{_≡_};
 ghost use Prim.Native.Nat.{_+_, _≤_};
 ghost use lib.ListN.{length};
 ghost use Rattle.bench.specs.Turns.{Less};

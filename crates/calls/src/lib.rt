@@ -1,4 +1,7 @@
 // What is handed over with a call beside the areas' bytes, and what is handed on from call to call (document 01, "The areas").
+use areas::kinds::Held;
+ghost use mathlib.Core.Path.{_≡_};
+ghost use Rattle.calls.specs.Calls.{heldIn};
 
 // The board's settings.
 pub struct Settings {
@@ -15,4 +18,11 @@ pub struct Kept {
 pub struct Lengths {
     pub points: usize,
     pub columns: usize,
+}
+
+// What a board with areas of these lengths holds.
+pub fn held_in(lengths: Lengths) -> Held
+    ensures { λ r. ⌜ r ≡ heldIn lengths ⌝ }
+{
+    Held::by(lengths.points)
 }

@@ -25,7 +25,7 @@ write = bench blank (text "!9924400100201000000000000000000010100000000000000000
 
 -- a 208H to a board with no effective point, and to one with point 1
 abbrev count : List ℕ → Call
-count points = record { sent = bench blank (text "!99208@@\r\n") .sent; areas = areasOf points blank (replicate 32768 0) (record { used = 0 }) }
+count points = bench (areasOf points (blank .columns) (blank .journal) (blank .kept)) (text "!99208@@\r\n")
 
 abbrev none : Call
 none = count (replicate 40 0)

@@ -12,6 +12,7 @@ use Rattle.journal.specs.Journal.{entryFor}
 use Rattle.axes.specs.Records.{zeroRecord, eightAxes}
 use Rattle.calls.specs.Calls.{Areas, Sent, fresh, lengthsOf, heldIn, putIn, withEntries}
 use Rattle.link.specs.Answer.{unanswered, answerOf, backOf}
+use Rattle.demands.specs.Cases.{holding}
 use Rattle.demands.specs.History.{Conduct, ours, Event, frame, stepBack, callOn, Past, past, entries, EveryHistory}
 
 -- a frame to station 99H, all eight axes fitted
@@ -37,7 +38,7 @@ unknown = send "!99299@@\r\n"
 
 -- one point and the least journal, from fresh
 abbrev pub smallest : Areas
-smallest = fresh (record { points = 1 }) 340
+smallest = fresh (holding 1) 340
 
 abbrev pub small : Conduct → List Event → Past
 small board events = past board (record { areas = smallest; standing-writes = [] }) events

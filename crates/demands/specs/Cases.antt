@@ -2,14 +2,16 @@
 use Prim.Native.Nat.{ℕ}
 use mathlib.Core.Path.{_≡_}
 use mathlib.Core.Bool.{false}
-use mathlib.Core.List.{List, [], _∷_, _++_}
+use mathlib.Core.List.{List, [], _∷_}
 use lib.IntN.{negsuc}
 use lib.ListN.{replicate}
 use Rattle.digits.specs.Text.{text}
 use Rattle.frames.specs.Frame.{sumOf, scOf}
 use Rattle.finder.specs.declared.Found.the-variants.{Nothing}
 use Rattle.finder.specs.Find.{findIn}
-use Rattle.areas.specs.Kinds.{pointsTag}
+use Rattle.areas.specs.declared.kinds.Held.{Held}
+use Rattle.areas.specs.Kinds.{pointsTag, columnsTag}
+use Rattle.journal.specs.Journal.{entryFor}
 use Rattle.points.specs.Units.{position}
 use Rattle.points.specs.Point.{positionOf}
 use Rattle.axes.specs.Records.{zeroRecord, eightAxes}
@@ -19,18 +21,24 @@ use Rattle.messages.specs.declared.table.Message.{Message}
 use Rattle.messages.specs.declared.Asked.the-variants.{Refused, Order}
 use Rattle.messages.specs.Table.{row}
 use Rattle.messages.specs.Asked.{askedOf}
-use Rattle.calls.specs.Calls.{Call, areasOf, callOf}
+use Rattle.calls.specs.Calls.{Areas, Call, callOf, fresh, putIn}
 use Rattle.link.specs.Answer.{answerOf}
 
--- "station 99H, N = 500, all eight axes, zero records, journal 32,768, fresh" ("Bench listing"), but for the columns
-abbrev pub bench : List ℕ → List ℕ → Call
-bench columns frame =
-    callOf frame (eightAxes (replicate 8 zeroRecord)) (record { station = 0x99; fitted = 0xFF }) (replicate 1024 0)
-    (areasOf (replicate 20000 0) columns (replicate 32768 0) (record { used = 0 }))
+-- what a board of so many points holds
+abbrev pub holding : ℕ → Held
+holding n = record { points = n }
 
--- fresh columns
-abbrev pub blank : List ℕ
-blank = replicate 700 0
+-- "station 99H, N = 500, all eight axes, zero records, journal 32,768, fresh" ("Bench listing")
+abbrev pub blank : Areas
+blank = fresh (holding 500) 32768
+
+abbrev pub bench : Areas → List ℕ → Call
+bench areas frame =
+    callOf frame (eightAxes (replicate 8 zeroRecord)) (record { station = 0x99; fitted = 0xFF }) (replicate 1024 0) areas
+
+-- the same, with columns from a number on "holding" these bytes
+abbrev pub withColumns : ℕ → List ℕ → Areas
+withColumns start bytes = putIn (holding 500) (entryFor columnsTag start bytes) blank
 
 -- 209H, "effective point query" ("What the board answers"; 000, section 4-3-5): its row of the table
 abbrev pub listPoints : Message
@@ -47,16 +55,16 @@ pub record ProvedCases : Type 0 where
   pub case5 : answerOf (bench blank (text "!9924400100103001E001E00640000C350FFFFFFFFF3\r\n")) .text ≡ text "#9924400100151\r\n"
   pub case6 : answerOf (bench blank (text "!99299@@\r\n")) .text ≡ text "&991012A\r\n"
   -- (7) "`!992100012C0490` with columns 300 to 303 holding 30 30 34 37 replies `#992100012C043030343729`"
-  pub case7 : answerOf (bench (0x30 ∷ 0x30 ∷ 0x34 ∷ 0x37 ∷ replicate 696 0) (text "!992100012C0490\r\n")) .text ≡ text "#992100012C043030343729\r\n"
+  pub case7 : answerOf (bench (withColumns 300 (0x30 ∷ 0x30 ∷ 0x34 ∷ 0x37 ∷ [])) (text "!992100012C0490\r\n")) .text ≡ text "#992100012C043030343729\r\n"
   -- (8) "start 3E7 count 01 is column 999, count 02 is 106"
-  pub case8 : (answerOf (bench (replicate 699 0 ++ (0x41 ∷ [])) (text "!99210003E701@@\r\n")) .text ≡ text "#99210003E70141FD\r\n")
+  pub case8 : (answerOf (bench (withColumns 999 (0x41 ∷ [])) (text "!99210003E701@@\r\n")) .text ≡ text "#99210003E70141FD\r\n")
       × (answerOf (bench blank (text "!99210003E702@@\r\n")) .number ≡ 106)
   -- (9) "number 010 is point 16"
-  pub case9 : askedOf (record { points = 500 }) 0xFF (text "!99209010001@@\r\n") ≡ Order listPoints 16 1
+  pub case9 : askedOf (holding 500) 0xFF (text "!99209010001@@\r\n") ≡ Order listPoints 16 1
   -- (10) "position 80000000 is -2,147,483,648"
   pub case10 : positionOf (text "80000000") ≡ position (negsuc 2147483647)
   -- (11) "empty input: nothing found"
   pub case11 : findIn [] ≡ Nothing 0
   -- (12) "start 5DC is held with N = 1,500, 5DD isn't"
-  pub case12 : (askedOf (record { points = 1500 }) 0xFF (text "!992095DC001@@\r\n") ≡ Order listPoints 1500 1)
-      × (askedOf (record { points = 1500 }) 0xFF (text "!992095DD001@@\r\n") ≡ Refused 106)
+  pub case12 : (askedOf (holding 1500) 0xFF (text "!992095DC001@@\r\n") ≡ Order listPoints 1500 1)
+      × (askedOf (holding 1500) 0xFF (text "!992095DD001@@\r\n") ≡ Refused 106)

@@ -10,27 +10,24 @@ use Rattle.finder.specs.Find.{dropOf}
 use Rattle.axes.specs.declared.AxisRecord.{AxisRecord}
 use Rattle.axes.specs.Records.{zeroRecord}
 use Rattle.axes.specs.Run.{lentAxes}
-use Rattle.calls.specs.Calls.{Areas, Call, callOf, fresh}
+use Rattle.calls.specs.Calls.{Areas, Call, callOf}
 use Rattle.link.specs.Answer.{asked, answerOf, backOf}
 use Rattle.link.specs.Contract.{StepsBack}
 use Rattle.board.specs.Calls.{codeOf, startOf, lengthOf, Receives}
 use Rattle.demands.specs.Refused.{SameError, asksWrite}
-use Rattle.demands.specs.Cases.{bench, blank}
+use Rattle.demands.specs.Cases.{blank, bench, withColumns}
 
--- the bench's areas, and a 208H to it with its axis records as a lent run
-abbrev pub benchAreas : Areas
-benchAreas = fresh (record { points = 500 }) 32768
-
+-- a 208H to the bench with its axis records as a lent run
 abbrev pub lentBench : List AxisRecord → Call
-lentBench records = callOf (text "!99208@@\r\n") (lentAxes records) (record { station = 0x99; fitted = 0xFF }) (replicate 1024 0) benchAreas
+lentBench records = callOf (text "!99208@@\r\n") (lentAxes records) (record { station = 0x99; fitted = 0xFF }) (replicate 1024 0) blank
 
 pub record Examples : Type 0 where
   -- `ChangesNothing` and `OneReply`: a frame refused with a reply, one without, and a step back with nothing left
   pub with-reply : answerOf (bench blank (text "!99299@@\r\n")) .number ≡ 101
   pub without-reply : answerOf (bench blank (text "!9920900100555\r\n")) .number ≡ 7
-  pub no-step-back : backOf benchAreas .number ≡ 9
+  pub no-step-back : backOf blank .number ≡ 9
   -- `ErrorsAgree`: the same frame to two boards whose columns differ
-  pub same-error : SameError (bench blank (text "!99299@@\r\n")) (bench (replicate 700 0x41) (text "!99299@@\r\n"))
+  pub same-error : SameError (bench blank (text "!99299@@\r\n")) (bench (withColumns 300 (replicate 700 0x41)) (text "!99299@@\r\n"))
   -- `QueryChangesNothing`: a 208H; `EveryReply` and `TestCallBack`: a 200H
   pub query : asksWrite (asked (bench blank (text "!99208@@\r\n"))) ≡ false
   pub test-call : messageIn (text "!99200001234567829\r\n") ≡ text "200"

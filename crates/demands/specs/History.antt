@@ -93,7 +93,7 @@ module _ (board : Conduct) where
         (s : Sent) → acceptedWrite (p .areas) s ≡ true
         → entries (after (p .areas) (frame s)) ≡ added size (entries (p .areas)) (lastEntry (entries (after (p .areas) (frame s))))
     pub keeps : (s : Sent) → acceptedWrite (p .areas) s ≡ false → after (p .areas) (frame s) ≡ p .areas
-    -- a step back removes the last entry, and "is refused only when the journal [..] has none left": number 9, and then it changes nothing
+    -- a step back removes the last entry, and "is refused only when the journal [..] has none left": number 9
     pub removes : entries (after (p .areas) stepBack) ≡ others (entries (p .areas))
     pub accepted : (entries (p .areas) ≡ [] → ⊥) ↔ (board .back (p .areas) .number ≡ 0)
     pub refused : (entries (p .areas) ≡ []) ↔ (board .back (p .areas) .number ≡ 9)

@@ -1,7 +1,6 @@
 -- Worked cases of the finder, in the documents' own strings. Proved by computing, in proofs/Worked.antt.
-use Prim.Native.Nat.{ℕ}
 use mathlib.Core.Path.{_≡_}
-use mathlib.Core.List.{List, [], _∷_, _++_}
+use mathlib.Core.List.{[], _∷_, _++_}
 use lib.ListN.{replicate}
 use Rattle.digits.specs.Text.{text}
 use Rattle.frames.specs.Frame.{command}

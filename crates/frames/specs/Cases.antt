@@ -1,11 +1,8 @@
 -- Worked cases of frames, in the documents' own strings. Proved by computing, in proofs/Worked.antt.
-use Prim.Native.Nat.{ℕ}
 use mathlib.Core.Path.{_≡_}
 use mathlib.Core.Bool.{true, false}
-use mathlib.Core.List.{List, [], _∷_, _++_}
-use lib.ListN.{replicate}
 use Rattle.digits.specs.Text.{text}
-use Rattle.frames.specs.Frame.{command, normal, sumOf, scOf, shaped, sumPasses, stationPasses, replyOf, errorOf}
+use Rattle.frames.specs.Frame.{normal, sumOf, scOf, shaped, sumPasses, stationPasses, replyOf, errorOf}
 
 pub record Cases : Type 0 where
   -- Proved cases, 1; 000, section 3: "Total sum [..] = 254H", "The checksum is calculated as '54.'"

@@ -7,7 +7,6 @@ use lib.Dec.{eqb}
 use lib.ListN.{drop, replicate}
 use Rattle.digits.specs.Digits.{numberOf}
 use Rattle.frames.specs.Frame.{contentIn, replyOf, errorOf, normal}
-use Rattle.areas.specs.declared.kinds.Kind.{Kind}
 use Rattle.areas.specs.declared.kinds.Held.{Held}
 use Rattle.areas.specs.Kinds.{pointsOf, kindOf, placeOf}
 use Rattle.areas.specs.Pairs.{bytesIn}
@@ -88,11 +87,13 @@ areasAfter c (Order m start count) = storedBy (held c) m start count (rest c m) 
 abbrev pub unanswered : ℕ → Areas → Outcome
 unanswered number a = record { number = number; text = []; areas = a }
 
+-- the answer to a call: where no refusal without a reply holds, what its frame asks is done
 unfoldable pub answerOf : Call → Outcome
 answerOf c =
     cond (eqb (silentOf c) 0)
     (record { number = numberGiven (asked c); text = textOf c (asked c); areas = areasAfter c (asked c) })
     (unanswered (silentOf c) (c .areas))
 
+-- "The step back tests 2, 3, 4, then 9."
 unfoldable pub backOf : Areas → Outcome
 backOf a = cond (eqb (backRefusalOf a) 0) (unanswered 0 (steppedBack (heldIn (lengthsOf a)) a)) (unanswered (backRefusalOf a) a)

@@ -7,6 +7,7 @@ use axes::axes_of;
 use calls::Kept;
 use calls::Lengths;
 use calls::Settings;
+use calls::held_in;
 use frames::replies::error_reply;
 use journal::find_last;
 use journal::remove;
@@ -97,7 +98,11 @@ fn carry_out(
         r (areasOf (now (points .exit)) (now (columns .exit)) (now (journal .exit)) (r .kept)) (now (reply .exit)) ⌝ }
 {
     let station = settings.station;
-    let held = Held::by(points.len());
+    let lengths = Lengths {
+        points: points.len(),
+        columns: columns.len(),
+    };
+    let held = held_in(lengths);
     let k = held.kind(m.tag);
     let fields = m.program + m.start + m.count;
     let body = content(frame);
@@ -167,7 +172,7 @@ pub fn answer(
             kept,
         };
     }
-    let asked = judge(frame, Held::by(points.len()), settings.fitted);
+    let asked = judge(frame, held_in(lengths), settings.fitted);
     match asked {
         Asked::Refused { number: given } => refuse(reply, settings.station, given, kept),
         Asked::Order {
@@ -235,7 +240,7 @@ pub fn step_back(points: &mut [u8], columns: &mut [u8], journal: &mut [u8], kept
     if number != 0 {
         return Back { number, kept };
     }
-    let held = Held::by(points.len());
+    let held = held_in(lengths);
     let used = kept.used;
     let last = find_last(journal, used, held);
     let at = last.at;

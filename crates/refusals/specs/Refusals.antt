@@ -1,4 +1,4 @@
--- Document 01, "Refusal numbers, in the order tested". Nothing else decides a number.
+-- Document 01, "Refusal numbers, in the order tested": 1 to 9 here, 101 to 107 by `askedRows` of messages. Nothing else decides a number.
 use Prim.Native.Nat.{ℕ, _+_, _*_, _%_}
 use mathlib.Core.Bool.{Bool, true, not, _&&_}
 use mathlib.Core.List.{List, [], _∷_, _++_}

@@ -5,6 +5,7 @@ use axes::AxisRecord;
 use calls::Kept;
 use calls::Lengths;
 use calls::Settings;
+use calls::held_in;
 use frames::checks::is_ours;
 use frames::checks::is_shaped;
 use frames::checks::passes_sum;
@@ -87,7 +88,7 @@ fn area_refusal(lengths: Lengths, journal: &[u8], kept: Kept) -> u16
     if lengths.columns != 700 {
         return 3;
     }
-    if !fits_journal(journal, kept.used, Held::by(lengths.points)) {
+    if !fits_journal(journal, kept.used, held_in(lengths)) {
         return 4;
     }
     0

@@ -1,10 +1,8 @@
 use points::point::Point;
 use points::units::Position;
 ghost use mathlib.Core.Path.{_≡_};
-ghost use mathlib.Core.List.{_++_};
-ghost use Prim.Native.Nat.{_+_, _*_, _≤_, _<_};
+ghost use Prim.Native.Nat.{_+_, _*_, _≤_};
 ghost use lib.ListN.{length};
-ghost use Rattle.digits.specs.Digits.{digitsOf};
 ghost use Rattle.digits.specs.Laid.{laid};
 ghost use Rattle.points.specs.Axes.{axesOf};
 ghost use Rattle.points.specs.Point.{positionDigits, pointDigits};

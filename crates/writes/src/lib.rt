@@ -7,7 +7,7 @@ use journal::add;
 use slots::lay_points;
 ghost use mathlib.Core.Path.{_≡_};
 ghost use mathlib.Core.Bool.{true};
-ghost use Prim.Native.Nat.{_+_, _*_, _≤_, _<_};
+ghost use Prim.Native.Nat.{_+_, _*_};
 ghost use lib.ListN.{length, replicate};
 ghost use Rattle.digits.specs.Digits.{allDigits};
 ghost use Rattle.areas.specs.Pairs.{bytesIn};

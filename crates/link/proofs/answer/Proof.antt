@@ -32,11 +32,11 @@ same-length c = search needs
 returns : tie.Need-returns
 returns c = let s = c .before .before .before .before .before .before .before .before in answered-silent (call s) _ (c .before .silent .ensures ∙ sym (silent-first (call s))) (c .if1 .taken)
 
-by-requires : tie.Need-by-requires
-by-requires c κs = search needs
+held-in-requires : tie.Need-held-in-requires
+held-in-requires c κs = search needs
 
 judge-requires : tie.Need-judge-requires
-judge-requires c κs = let g = c .before in let f = fine (call (start g)) (heard g) in (f .frame-long, same-sound (c .by .ensures) (f .sound-held))
+judge-requires c κs = let g = c .before in let f = fine (call (start g)) (heard g) in (f .frame-long, same-sound (c .held-in .ensures) (f .sound-held))
 
 enum-known-asked : tie.Need-enum-known-asked
 enum-known-asked c = search needs
@@ -48,7 +48,7 @@ enum-known-asked-2 : tie.Need-enum-known-asked-2
 enum-known-asked-2 c = search needs
 
 carry-out-requires : tie.Need-carry-out-requires
-carry-out-requires c κs = let g = c .before .before .before .before .before .before .before .before .before in record { silent-0 = heard g; order = same-asked _ _ (sym (c .before .before .before .before .before .asked2 .given .1) ∙ c .before .before .before .before .before .before .before .judge .ensures) (c .before .before .before .before .before .before .before .before .by .ensures) }
+carry-out-requires c κs = let g = c .before .before .before .before .before .before .before .before .before in record { silent-0 = heard g; order = same-asked _ _ (sym (c .before .before .before .before .before .asked2 .given .1) ∙ c .before .before .before .before .before .before .before .judge .ensures) (c .before .before .before .before .before .before .before .before .held-in .ensures) }
 
 same-length-2 : tie.Need-same-length-2
 same-length-2 c = search needs
@@ -58,7 +58,7 @@ same-length-3 c = search needs
 
 returns-2 : tie.Need-returns-2
 returns-2 c = let g = c .before .before .before .before .before .before .before .before .before in
-    answered-refused (call (start g)) _ _ _ (heard g) (same-asked _ _ (sym (c .before .before .before .before .before .asked .given .1) ∙ c .before .before .before .before .before .before .before .judge .ensures) (c .before .before .before .before .before .before .before .before .by .ensures)) (c .before .before .refuse .ensures .0) (c .before .before .refuse .ensures .1)
+    answered-refused (call (start g)) _ _ _ (heard g) (same-asked _ _ (sym (c .before .before .before .before .before .asked .given .1) ∙ c .before .before .before .before .before .before .before .judge .ensures) (c .before .before .before .before .before .before .before .before .held-in .ensures)) (c .before .before .refuse .ensures .0) (c .before .before .refuse .ensures .1)
 
 same-length-4 : tie.Need-same-length-4
 same-length-4 c = search needs
@@ -82,7 +82,7 @@ answer-spec =
     silent-requires
     same-length
     returns
-    by-requires
+    held-in-requires
     judge-requires
     enum-known-asked
     refuse-requires

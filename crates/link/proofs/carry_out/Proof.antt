@@ -35,8 +35,8 @@ abbrev message : tie.After-rest → Message
 message r = start r .args .m
 
 -- what is held, the kind, and what follows the fields are as they should be
-held-is : (r : tie.After-rest) → r .before .before .before .before .before .by .result ≡ held (call r)
-held-is r = r .before .before .before .before .before .by .ensures
+held-is : (r : tie.After-rest) → r .before .before .before .before .before .held-in .result ≡ held (call r)
+held-is r = r .before .before .before .before .before .held-in .ensures
 
 kind-is : (r : tie.After-rest) → r .before .before .before .before .kind .result ≡ kindOf (held (call r)) (message r .tag)
 kind-is r = r .before .before .before .before .kind .ensures ∙ ap (λ (h : Held). kindOf h (message r .tag)) (held-is r)
@@ -49,8 +49,8 @@ rest-is r = handling.rest-is (call r) (message r) (start r .args .start) (start 
 says : {reply reply′ : List ℕ} {long station : ℕ} {t u : List ℕ} → t ≡ u → Replied reply reply′ long station t → Replied reply reply′ long station u
 says {reply} {reply′} {long} {station} e p = subst (λ (x : List ℕ). Replied reply reply′ long station x) e p
 
-by-requires : tie.Need-by-requires
-by-requires c κs = search needs
+held-in-requires : tie.Need-held-in-requires
+held-in-requires c κs = search needs
 
 kind-requires : tie.Need-kind-requires
 kind-requires c κs = search needs
@@ -278,7 +278,7 @@ pub carry-out-spec : {M : Type 1} → statement M
 carry-out-spec =
     tie.close
     (tie.spec
-    by-requires
+    held-in-requires
     kind-requires
     add-fields
     add-fields-2

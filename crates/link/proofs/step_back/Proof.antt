@@ -27,11 +27,11 @@ same-length c = search needs
 returns : tie.Need-returns
 returns c = let s = c .before .before .before .before .before .before in stepped-refused (areas s) _ (c .before .back-refusal .ensures ∙ sym (back-first (areas s))) (c .if1 .taken)
 
-by-requires : tie.Need-by-requires
-by-requires c κs = search needs
+held-in-requires : tie.Need-held-in-requires
+held-in-requires c κs = search needs
 
 find-last-requires : tie.Need-find-last-requires
-find-last-requires c κs = let g = c .before .before in find-needs (areas (start g)) (passed g) (c .before .by .ensures)
+find-last-requires c κs = let g = c .before .before in find-needs (areas (start g)) (passed g) (c .before .held-in .ensures)
 
 add-put-back : tie.Need-add-put-back
 add-put-back c = search needs
@@ -46,7 +46,7 @@ part-put-back-end : tie.Need-part-put-back-end
 part-put-back-end c = let g = c .before .before .before .before .before .before in omega (arith, can-step-back (areas (start g)) (passed g) .journal .within)
 
 put-back-requires : tie.Need-put-back-requires
-put-back-requires c κs = let g = c .before .before .before .before .before .before .before in put-needs (areas (start g)) (passed g) (c .before .before .before .before .before .before .by .ensures) (c .before .before .before .before .find-last .ensures)
+put-back-requires c κs = let g = c .before .before .before .before .before .before .before in put-needs (areas (start g)) (passed g) (c .before .before .before .before .before .before .held-in .ensures) (c .before .before .before .before .find-last .ensures)
 
 remove-requires : tie.Need-remove-requires
 remove-requires c κs = let g = c .before .before .before .before .before .before .before .before .before .before .before .before .before in omega (arith, can-step-back (areas (start g)) (passed g) .journal .within, c .before .before .before .before .before .before .before .before .before .before .find-last .ensures .span)
@@ -62,7 +62,7 @@ same-length-4 c = search needs
 
 returns-2 : tie.Need-returns-2
 returns-2 c = let g = c .before .before .before .before .before .before .before .before .before .before .before .before .before .before .before .before in
-    stepped (areas (start g)) (passed g) (c .before .before .before .before .before .before .before .before .before .before .before .before .before .before .before .by .ensures) (c .before .before .before .before .before .before .before .before .before .before .before .before .before .find-last .ensures) (λ i. c .before .before .before .before .before .before .before .before .before .before .before .before .before .before .before .before .before .before .before .slice-known3 .given i .fits) _ _ _ _ refl refl
+    stepped (areas (start g)) (passed g) (c .before .before .before .before .before .before .before .before .before .before .before .before .before .before .before .held-in .ensures) (c .before .before .before .before .before .before .before .before .before .before .before .before .before .find-last .ensures) (λ i. c .before .before .before .before .before .before .before .before .before .before .before .before .before .before .before .before .before .before .before .slice-known3 .given i .fits) _ _ _ _ refl refl
     (c .before .before .before .before .before .before .before .before .put-back .ensures .0) (c .before .before .before .before .before .before .before .before .put-back .ensures .1) (c .before .before .remove .ensures)
 
 pub step-back-spec : {M : Type 1} → statement M
@@ -72,7 +72,7 @@ step-back-spec =
     back-refusal-requires
     same-length
     returns
-    by-requires
+    held-in-requires
     find-last-requires
     add-put-back
     sub-put-back

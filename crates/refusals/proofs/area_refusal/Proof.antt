@@ -16,17 +16,17 @@ returns c = let a = c .before .before .before .args in area-2 (a .lengths) (a .j
 returns-2 : tie.Need-returns-2
 returns-2 c = let a = c .before .before .before .before .before .args in area-3 (a .lengths) (a .journal .now) (a .kept) (was-true (c .before .before .before .fits-points .ensures) (c .before .before .if1 .left)) (c .if2 .taken)
 
-by-requires : tie.Need-by-requires
-by-requires c κs = search needs
+held-in-requires : tie.Need-held-in-requires
+held-in-requires c κs = search needs
 
 fits-journal-requires : tie.Need-fits-journal-requires
-fits-journal-requires c κs = same-sound (c .by .ensures) (sound _ (was-true (c .before .before .before .before .fits-points .ensures) (c .before .before .before .if1 .left)))
+fits-journal-requires c κs = same-sound (c .held-in .ensures) (sound _ (was-true (c .before .before .before .before .fits-points .ensures) (c .before .before .before .if1 .left)))
 
 returns-3 : tie.Need-returns-3
-returns-3 c = let a = c .before .before .before .before .before .before .before .before .args in area-4 (a .lengths) (a .journal .now) (a .kept) (was-true (c .before .before .before .before .before .before .fits-points .ensures) (c .before .before .before .before .before .if1 .left)) (c .before .before .before .if2 .left) (was-false (same-journal _ _ (c .before .fits-journal .ensures) (c .before .before .by .ensures)) (c .if3 .taken))
+returns-3 c = let a = c .before .before .before .before .before .before .before .before .args in area-4 (a .lengths) (a .journal .now) (a .kept) (was-true (c .before .before .before .before .before .before .fits-points .ensures) (c .before .before .before .before .before .if1 .left)) (c .before .before .before .if2 .left) (was-false (same-journal _ _ (c .before .fits-journal .ensures) (c .before .before .held-in .ensures)) (c .if3 .taken))
 
 returns-4 : tie.Need-returns-4
-returns-4 c = let a = c .before .before .before .before .before .before .before .before .args in area-0 (a .lengths) (a .journal .now) (a .kept) (was-true (c .before .before .before .before .before .before .fits-points .ensures) (c .before .before .before .before .before .if1 .left)) (c .before .before .before .if2 .left) (was-true (same-journal _ _ (c .before .fits-journal .ensures) (c .before .before .by .ensures)) (c .if3 .left))
+returns-4 c = let a = c .before .before .before .before .before .before .before .before .args in area-0 (a .lengths) (a .journal .now) (a .kept) (was-true (c .before .before .before .before .before .before .fits-points .ensures) (c .before .before .before .before .before .if1 .left)) (c .before .before .before .if2 .left) (was-true (same-journal _ _ (c .before .fits-journal .ensures) (c .before .before .held-in .ensures)) (c .if3 .left))
 
 pub area-refusal-spec : {M : Type 1} → statement M
 area-refusal-spec =
@@ -35,7 +35,7 @@ area-refusal-spec =
     fits-points-requires
     returns
     returns-2
-    by-requires
+    held-in-requires
     fits-journal-requires
     returns-3
     returns-4)
