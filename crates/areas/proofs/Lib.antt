@@ -1,4 +1,3 @@
-pub mod Known
 pub mod Paired
 pub mod Moves
 pub mod Promised

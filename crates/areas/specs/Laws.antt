@@ -1,22 +1,12 @@
--- What is promised of runs and of pairs of digits. The proofs are in proofs/Promised.antt.
-use Prim.Native.Nat.{ℕ, _+_, _*_, _<_, _≤_}
+-- What is promised of pairs of digits. The proof is in proofs/Promised.antt.
+use Prim.Native.Nat.{ℕ, _*_}
 use mathlib.Core.Path.{_≡_}
 use mathlib.Core.Bool.{true}
 use mathlib.Core.List.{List}
-use lib.ListN.{length, getD}
+use lib.ListN.{length}
 use Rattle.digits.specs.Digits.{allDigits}
-use Rattle.areas.specs.declared.kinds.Kind.{Kind}
-use Rattle.areas.specs.Kinds.{runOf, put, placeOf}
 use Rattle.areas.specs.Pairs.{bytesIn, digitsIn}
 
 -- Demand 2, codes "survive writing and reading back with every digit": pairs of digits, as bytes and back, are the very digits
 abbrev pub EveryDigit : List ℕ → Type 0
 EveryDigit s = (pairs : ℕ) → length s ≡ 2 * pairs → allDigits s ≡ true → digitsIn (bytesIn s) ≡ s
-
--- a run of any kind, put and read back, within its area
-pub record Run (k : Kind) (start count : ℕ) (bytes area : List ℕ) : Type 0 where
-  pub read-back : runOf k start count (put k start bytes area) ≡ bytes
-  pub put-back : put k start (runOf k start count area) (put k start bytes area) ≡ area
-  pub as-long : length (put k start bytes area) ≡ length area
-  pub outside-before : (i : ℕ) → i < placeOf k start → getD (put k start bytes area) i 0 ≡ getD area i 0
-  pub outside-behind : (i : ℕ) → placeOf k start + length bytes ≤ i → getD (put k start bytes area) i 0 ≡ getD area i 0

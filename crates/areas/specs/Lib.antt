@@ -1,4 +1,3 @@
 pub mod Bytes
-pub mod Kinds
 pub mod Pairs
 pub mod Laws

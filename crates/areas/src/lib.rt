@@ -1,5 +1,4 @@
-// The lent areas: kinds of numbered things, numbers and runs of bytes in them, pairs of digits (document 01, "The areas").
+// The lent areas: numbers and runs of bytes in them, pairs of digits (document 01, "The areas").
 pub mod bytes; // numbers in two and four bytes
-pub mod kinds; // a kind of numbered thing, as a value
 pub mod pairs; // one byte for each pair of digits, and back
 pub mod runs; // bytes put, cleared and moved, each touched once

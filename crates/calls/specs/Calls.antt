@@ -4,8 +4,8 @@ use mathlib.Core.Bool.{cond}
 use mathlib.Core.List.{List, []}
 use lib.Dec.{eqb}
 use lib.ListN.{length, take, replicate}
-use Rattle.areas.specs.declared.kinds.Held.{Held}
-use Rattle.areas.specs.Kinds.{pointsTag, columnsTag, pointsOf, columnsOf, heldBy, kindOf, sizeOf, runOf}
+use Rattle.kinds.specs.declared.Held.{Held}
+use Rattle.kinds.specs.Kinds.{pointsTag, columnsTag, pointsOf, columnsOf, heldBy, kindOf, sizeOf, runOf}
 use Rattle.journal.specs.Journal.{Entry, encodes, entriesIn, added, areaOf, lastEntry, others, puts, entryFor}
 use Rattle.axes.specs.declared.Axes.{Axes}
 use Rattle.calls.specs.declared.Settings.{Settings}

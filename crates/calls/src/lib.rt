@@ -1,5 +1,5 @@
 // What is handed over with a call beside the areas' bytes, and what is handed on from call to call (document 01, "The areas").
-use areas::kinds::Held;
+use kinds::Held;
 ghost use mathlib.Core.Path.{_≡_};
 ghost use Rattle.calls.specs.Calls.{heldIn};
 

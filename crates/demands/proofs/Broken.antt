@@ -5,7 +5,7 @@ use mathlib.Core.Bool.{true}
 use mathlib.Core.List.{List, [], _∷_}
 use native.Mathlib.Omega.{arith}
 use lib.ListN.{length, getD}
-use Rattle.areas.specs.Kinds.{columnsTag}
+use Rattle.kinds.specs.Kinds.{columnsTag}
 use Rattle.journal.specs.Journal.{added, lastEntry}
 use Rattle.calls.specs.Calls.{Areas}
 use Rattle.demands.specs.History.{Conduct, Event, frame, stepBack, after, acceptedWrite, alone, entries, Holds, EveryHistory}

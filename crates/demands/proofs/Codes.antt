@@ -11,7 +11,7 @@ use Rattle.digits.specs.Digits.{byteOf, digitsOf, allDigits, numberOf}
 use Rattle.digits.specs.Text.{text}
 use Rattle.digits.proofs.Inverse.{inverse}
 use Rattle.digits.proofs.Bools.{was-not}
-use Rattle.areas.specs.Kinds.{columnsTag, kindOf, runOf}
+use Rattle.kinds.specs.Kinds.{columnsTag, kindOf, runOf}
 use Rattle.areas.specs.Pairs.{digitsIn}
 use Rattle.areas.proofs.Promised.{every-digit}
 use Rattle.points.proofs.Parts.{all-take, all-drop, all-part}

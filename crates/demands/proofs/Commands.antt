@@ -14,7 +14,7 @@ use Rattle.digits.proofs.Inverse.{inverse, and-left, and-right}
 use Rattle.frames.specs.Frame.{CR, LF, stationIn, messageIn, contentIn, scIn, scOf, shaped, sumTrue, sumOff, sumPasses, stationPasses}
 use Rattle.frames.proofs.Bools.{or-true}
 use Rattle.frames.proofs.Promised.{closed-true, says-digits}
-use Rattle.areas.specs.Kinds.{pointsTag, columnsTag}
+use Rattle.kinds.specs.Kinds.{pointsTag, columnsTag}
 use Rattle.messages.specs.declared.table.Follows.the-variants.{Nothing, Points, RunBytes}
 use Rattle.messages.specs.declared.table.Action.the-variants.{CountPoints, ListPoints, ReadRun, WritePoints, ClearRun, ChangeRun}
 use Rattle.messages.specs.declared.table.Message.{Message}

@@ -3,7 +3,7 @@ use Rattle.digits.specs.Digits.{isDigit, worthOf, byteOf}
 use Rattle.digits.specs.Laid.{laid}
 use Rattle.frames.specs.Frame.{shaped, sumTrue, sumOff, sumPasses, stationPasses, replyOf}
 use Rattle.finder.specs.Find.{findIn}
-use Rattle.areas.specs.Kinds.{kindOf, holds, runOf, put}
+use Rattle.kinds.specs.Kinds.{kindOf, holds, runOf, put}
 use Rattle.journal.specs.Journal.{encode, encodes, entryFits, frontOf, whole, entryAt, entriesIn, kept, added, areaOf, lastOf, othersOf, lastEntry, others, puts}
 use Rattle.points.specs.Axes.{axesFrom, axesOf}
 use Rattle.points.specs.Point.{positionsOf, pointOf, lengthOf, fillsOf, positionBytes, slotOf, slotsOf, positionsIn, pointIn, effectiveIn, positionDigits, pointDigits}

@@ -9,8 +9,8 @@ use lib.Dec.{eqb}
 use lib.ListN.{length, replicate, length-append, length-replicate}
 use borrow.Author.Tests.{eqb-true, eqb-false, eq-eqb, ne-eqb}
 use Rattle.digits.proofs.Inverse.{and-left, and-right}
-use Rattle.areas.specs.declared.kinds.Held.{Held}
-use Rattle.areas.specs.Kinds.{pointsOf, columnsOf, kindOf, sizeOf, runOf}
+use Rattle.kinds.specs.declared.Held.{Held}
+use Rattle.kinds.specs.Kinds.{pointsOf, columnsOf, kindOf, sizeOf, runOf}
 use Rattle.journal.specs.Journal.{Entry, encode, encodes, kept, added, areaOf, lastEntry, others, entryFor}
 use Rattle.journal.specs.Laws.{AllGood}
 use Rattle.journal.proofs.Codec.{length-encode}

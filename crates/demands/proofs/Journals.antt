@@ -6,7 +6,7 @@ use mathlib.Core.List.{List, [], _∷_, _++_}
 use native.Mathlib.Omega.{arith}
 use lib.ListN.{length, take, length-append, length-replicate}
 use borrow.Author.Tests.{le-leb}
-use Rattle.areas.specs.declared.kinds.Held.{Held}
+use Rattle.kinds.specs.declared.Held.{Held}
 use Rattle.journal.specs.Journal.{Entry, encode, encodes, entriesIn, kept, added, areaOf}
 use Rattle.journal.specs.Laws.{Good, AllGood}
 use Rattle.journal.proofs.Codec.{Bytes, bytes-take, length-encode}

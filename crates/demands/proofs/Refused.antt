@@ -13,7 +13,7 @@ use Rattle.digits.proofs.Bools.{either}
 use Rattle.digits.proofs.Laid.{laid-nothing, laid-front}
 use Rattle.frames.specs.Frame.{contentIn, errorOf}
 use Rattle.frames.proofs.Closing.{length-reply}
-use Rattle.areas.specs.declared.kinds.Held.{Held}
+use Rattle.kinds.specs.declared.Held.{Held}
 use Rattle.messages.specs.declared.table.Named.{Named}
 use Rattle.messages.specs.declared.table.Named.the-variants.{Known, Unknown}
 use Rattle.messages.specs.declared.Asked.{Asked}

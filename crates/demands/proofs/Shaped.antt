@@ -8,9 +8,9 @@ use lib.Dec.{eqb, ltb}
 use lib.ListN.{length}
 use borrow.Author.Tests.{eq-eqb, le-leb}
 use Rattle.frames.specs.Frame.{contentIn}
-use Rattle.areas.specs.declared.kinds.Held.{Held}
-use Rattle.areas.specs.Kinds.{Sound, pointsTag, columnsTag, pointsOf, columnsOf, kindOf, sizeOf}
-use Rattle.areas.proofs.Known.{kind-points, kind-columns}
+use Rattle.kinds.specs.declared.Held.{Held}
+use Rattle.kinds.specs.Kinds.{Sound, pointsTag, columnsTag, pointsOf, columnsOf, kindOf, sizeOf}
+use Rattle.kinds.proofs.Known.{kind-points, kind-columns}
 use Rattle.journal.specs.Journal.{Entry, encodes}
 use Rattle.journal.specs.Laws.{AllGood}
 use Rattle.journal.specs.Laws as journal

@@ -14,9 +14,9 @@ use borrow.Author.Tests.{leb-true, not-true}
 use Rattle.digits.specs.Digits.{digitsOf, allDigits, numberOf}
 use Rattle.digits.proofs.Inverse.{and-left, and-right}
 use Rattle.digits.specs.Laid.{laid}
-use Rattle.areas.specs.declared.kinds.Held.{Held}
-use Rattle.areas.specs.Kinds.{pointsOf, holds, runOf, put}
-use Rattle.areas.proofs.Known.{within}
+use Rattle.kinds.specs.declared.Held.{Held}
+use Rattle.kinds.specs.Kinds.{pointsOf, holds, runOf, put}
+use Rattle.kinds.proofs.Known.{within}
 use Rattle.points.specs.Units.{position}
 use Rattle.points.specs.Axes.{axesFrom, axesOf}
 use Rattle.points.specs.Point.{positionOf, positionsOf, pointOf, lengthOf, fillsOf, slotOf, slotsOf, positionsIn, pointIn, effectiveIn, pointDigits}

@@ -7,7 +7,7 @@ use lib.ListN.{getD, replicate}
 use Rattle.digits.specs.Digits.{isDigit, worthOf, byteOf}
 use Rattle.digits.specs.Text.{text}
 use Rattle.frames.specs.Frame.{normal, shaped, sumTrue, sumOff, sumPasses, stationPasses, replyOf}
-use Rattle.areas.specs.Kinds.{kindOf, holds}
+use Rattle.kinds.specs.Kinds.{kindOf, holds}
 use Rattle.journal.specs.Journal.{whole}
 use Rattle.points.specs.Axes.{axesFrom, axesOf}
 use Rattle.points.specs.Point.{lengthOf, fillsOf}

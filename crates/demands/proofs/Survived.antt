@@ -11,9 +11,9 @@ use Rattle.digits.specs.Digits.{byteOf, digitsOf}
 use Rattle.digits.specs.Laid.{laid}
 use Rattle.digits.specs.Text.{text}
 use Rattle.digits.proofs.Bools.{was-not}
-use Rattle.areas.specs.declared.kinds.Held.{Held}
-use Rattle.areas.specs.Kinds.{pointsTag, pointsOf, holds, put}
-use Rattle.areas.proofs.Known.{kind-points, within}
+use Rattle.kinds.specs.declared.Held.{Held}
+use Rattle.kinds.specs.Kinds.{pointsTag, pointsOf, holds, put}
+use Rattle.kinds.proofs.Known.{kind-points, within}
 use Rattle.points.specs.Point.{effectiveIn}
 use Rattle.points.proofs.Parts.{all-drop}
 use Rattle.messages.specs.declared.table.Follows.{Follows}

@@ -12,11 +12,11 @@ use Rattle.digits.proofs.Inverse.{inverse}
 use Rattle.digits.proofs.Bools.{either}
 use Rattle.frames.specs.Frame.{normal}
 use Rattle.frames.proofs.Closing.{length-reply}
-use Rattle.areas.specs.declared.kinds.Kind.{Kind}
-use Rattle.areas.specs.declared.kinds.Held.{Held}
-use Rattle.areas.specs.Kinds.{pointsTag, columnsTag, pointsOf, columnsOf, kindOf, holds, sizeOf, runOf, put}
-use Rattle.areas.proofs.Known.{tag-of, own-kind, within, room, run-length}
-use Rattle.areas.proofs.Promised.{run}
+use Rattle.kinds.specs.declared.Kind.{Kind}
+use Rattle.kinds.specs.declared.Held.{Held}
+use Rattle.kinds.specs.Kinds.{pointsTag, columnsTag, pointsOf, columnsOf, kindOf, holds, sizeOf, runOf, put}
+use Rattle.kinds.proofs.Known.{tag-of, own-kind, within, room, run-length}
+use Rattle.kinds.proofs.Promised.{run}
 use Rattle.journal.specs.Journal.{Entry, puts, entryFor}
 use Rattle.journal.specs.Laws.{Good}
 use Rattle.journal.proofs.Codec.{Bytes}

@@ -8,11 +8,11 @@ use lib.Dec.{eqb}
 use lib.ListN.{length}
 use borrow.Author.Tests.{eqb-true}
 use Rattle.frames.specs.Frame.{contentIn}
-use Rattle.areas.specs.declared.kinds.Held.{Held}
-use Rattle.areas.specs.Kinds.{pointsTag, columnsTag, pointsOf, columnsOf, kindOf, sizeOf, put}
-use Rattle.areas.specs.Laws.{Run}
-use Rattle.areas.proofs.Promised.{run}
-use Rattle.areas.proofs.Known.{tag-of, own-kind, kind-points, kind-columns, room, run-length}
+use Rattle.kinds.specs.declared.Held.{Held}
+use Rattle.kinds.specs.Kinds.{pointsTag, columnsTag, pointsOf, columnsOf, kindOf, sizeOf, put}
+use Rattle.kinds.specs.Laws.{Run}
+use Rattle.kinds.proofs.Promised.{run}
+use Rattle.kinds.proofs.Known.{tag-of, own-kind, kind-points, kind-columns, room, run-length}
 use Rattle.journal.specs.Journal.{Entry, encodes, added, areaOf, puts, entryFor}
 use Rattle.journal.specs.Laws.{Good}
 use Rattle.journal.proofs.Codec.{length-encode}

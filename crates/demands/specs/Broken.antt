@@ -7,7 +7,7 @@ use mathlib.Core.List.{List, [], _∷_}
 use lib.Dec.{eqb}
 use lib.ListN.{length, take, replicate}
 use Rattle.digits.specs.Text.{text}
-use Rattle.areas.specs.Kinds.{columnsTag}
+use Rattle.kinds.specs.Kinds.{columnsTag}
 use Rattle.journal.specs.Journal.{entryFor}
 use Rattle.axes.specs.Records.{zeroRecord, eightAxes}
 use Rattle.calls.specs.Calls.{Areas, Sent, fresh, lengthsOf, heldIn, putIn, withEntries}

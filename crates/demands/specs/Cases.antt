@@ -9,8 +9,8 @@ use Rattle.digits.specs.Text.{text}
 use Rattle.frames.specs.Frame.{sumOf, scOf}
 use Rattle.finder.specs.declared.Found.the-variants.{Nothing}
 use Rattle.finder.specs.Find.{findIn}
-use Rattle.areas.specs.declared.kinds.Held.{Held}
-use Rattle.areas.specs.Kinds.{pointsTag, columnsTag}
+use Rattle.kinds.specs.declared.Held.{Held}
+use Rattle.kinds.specs.Kinds.{pointsTag, columnsTag}
 use Rattle.journal.specs.Journal.{entryFor}
 use Rattle.points.specs.Units.{position}
 use Rattle.points.specs.Point.{positionOf}

@@ -7,7 +7,7 @@ use mathlib.Core.Bool.{Bool, true, false, cond, _&&_}
 use mathlib.Core.List.{List, [], _∷_, _++_}
 use lib.Dec.{eqb}
 use lib.ListN.{length}
-use Rattle.areas.specs.declared.kinds.Held.{Held}
+use Rattle.kinds.specs.declared.Held.{Held}
 use Rattle.journal.specs.Journal.{Entry, encodes, added, areaOf, lastEntry, others}
 use Rattle.calls.specs.Calls.{Areas, Sent, Call, Outcome, fresh, lengthsOf, heldIn, areaIn, entriesOf}
 use Rattle.link.specs.Answer.{asked, answerOf, backOf}

@@ -9,8 +9,8 @@ use Rattle.digits.specs.Digits.{digitsOf}
 use Rattle.digits.specs.Laid.{laid}
 use Rattle.digits.specs.Text.{text}
 use Rattle.frames.specs.Frame.{command, normal, CR, LF, contentIn, scOf, replyOf}
-use Rattle.areas.specs.declared.kinds.Kind.{Kind}
-use Rattle.areas.specs.Kinds.{pointsTag, columnsTag, pointsOf, kindOf, placeOf, runOf}
+use Rattle.kinds.specs.declared.Kind.{Kind}
+use Rattle.kinds.specs.Kinds.{pointsTag, columnsTag, pointsOf, kindOf, placeOf, runOf}
 use Rattle.points.specs.Point.{lengthOf, effectiveIn}
 use Rattle.messages.specs.declared.table.Message.{Message}
 use Rattle.messages.specs.declared.table.Named.the-variants.{Known}

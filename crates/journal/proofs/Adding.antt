@@ -7,7 +7,7 @@ use native.Mathlib.Nat.{add-sub-of-le}
 use native.Mathlib.Omega.{arith}
 use lib.ListN.{length, take, drop, set, replicate, drop-of-length-le, length-drop, length-append, length-replicate}
 use lib.Seq.{take-add, drop-at, length-take-le}
-use Rattle.areas.specs.declared.kinds.Held.{Held}
+use Rattle.kinds.specs.declared.Held.{Held}
 use Rattle.areas.specs.Bytes.{twoOf}
 use Rattle.digits.specs.Laid.{laid}
 use Rattle.digits.proofs.Laid.{stored, laid-on, length-laid, take-laid}

@@ -7,7 +7,7 @@ use native.Mathlib.Omega.{arith}
 use lib.ListN.{length, take, replicate, length-append}
 use lib.Dec.{leb}
 use lib.Seq.{take-at}
-use Rattle.areas.specs.declared.kinds.Held.{Held}
+use Rattle.kinds.specs.declared.Held.{Held}
 use Rattle.journal.specs.Journal.{Entry, encode, encodes, whole, entriesIn, kept, added, areaOf, othersOf, others}
 use Rattle.journal.specs.Laws.{Good, AllGood, Holds}
 use Rattle.journal.proofs.Codec.{read-back}

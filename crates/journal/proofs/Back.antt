@@ -7,10 +7,10 @@ use native.Mathlib.Nat.{not-suc-le-zero, zero-add, add-zero}
 use native.Mathlib.Omega.{arith}
 use lib.ListN.{length, take, drop, getD, replicate, length-drop, length-append, drop-of-length-le}
 use lib.Seq.{drop-at, take-at, length-take-le, take-take, drop-drop, getD-take, getD-drop}
-use Rattle.areas.specs.declared.kinds.Kind.{Kind}
-use Rattle.areas.specs.declared.kinds.Held.{Held}
+use Rattle.kinds.specs.declared.Kind.{Kind}
+use Rattle.kinds.specs.declared.Held.{Held}
 use Rattle.areas.specs.Bytes.{twoAt}
-use Rattle.areas.specs.Kinds.{kindOf}
+use Rattle.kinds.specs.Kinds.{kindOf}
 use Rattle.journal.specs.Journal.{Entry, encode, encodes, entryFits, frontOf, whole, entryAt, entriesIn, areaOf, lastOf, othersOf, lastEntry, others}
 use Rattle.journal.specs.declared.Last.{Last}
 use Rattle.journal.specs.Laws.{Good, AllGood, Holds, Stands}

@@ -8,9 +8,9 @@ use native.Mathlib.Omega.{arith}
 use lib.Arith.{digits-div, digits-mod, digits-lt}
 use lib.ListN.{length, take, drop, getD, length-drop, length-append, take-append-drop}
 use lib.Seq.{take-at, drop-at, length-take-le, getD-drop, take-nil}
-use Rattle.areas.specs.declared.kinds.Held.{Held}
+use Rattle.kinds.specs.declared.Held.{Held}
 use Rattle.areas.specs.Bytes.{twoAt}
-use Rattle.areas.specs.Kinds.{kindOf}
+use Rattle.kinds.specs.Kinds.{kindOf}
 use Rattle.journal.specs.Journal.{Entry, encode, encodes, entryFits, frontOf, whole, entryAt, entriesIn}
 use Rattle.journal.specs.Laws.{Good, AllGood, ReadBack, Encoding}
 use Rattle.journal.proofs.Walk.{at-front, front-is, front-le, front-least, whole-some, whole-front, entries-front}

@@ -8,10 +8,10 @@ use native.Mathlib.Omega.{arith}
 use lib.Dec.{leb, eqb}
 use lib.ListN.{length}
 use borrow.Author.Tests.{eq-eqb, ne-eqb, eqb-true, le-leb}
-use Rattle.areas.specs.declared.kinds.Kind.{Kind}
-use Rattle.areas.specs.declared.kinds.Held.{Held}
-use Rattle.areas.specs.Kinds.{kindOf, Sound, holds, sizeOf, placeOf, put}
-use Rattle.areas.proofs.Known.{Sized, sized, within, room}
+use Rattle.kinds.specs.declared.Kind.{Kind}
+use Rattle.kinds.specs.declared.Held.{Held}
+use Rattle.kinds.specs.Kinds.{kindOf, Sound, holds, sizeOf, placeOf, put}
+use Rattle.kinds.proofs.Known.{Sized, sized, within, room}
 use Rattle.digits.proofs.Inverse.{and-left, and-right}
 use Rattle.journal.specs.Journal.{Entry, entryFits, puts, entryFor}
 use Rattle.journal.specs.Laws.{Good}

@@ -6,7 +6,7 @@ use mathlib.Core.List.{List, [], _∷_}
 use native.Mathlib.Omega.{arith}
 use lib.ListN.{length, drop, length-drop}
 use borrow.Author.Tests.{le-leb, lt-leb}
-use Rattle.areas.specs.declared.kinds.Held.{Held}
+use Rattle.kinds.specs.declared.Held.{Held}
 use Rattle.journal.specs.Journal.{Entry, encodes, frontOf, whole, entryAt, entriesIn, kept}
 use Rattle.journal.proofs.Walk.{turn-le, turn-whole, turn-some, turn-entries}
 use Rattle.journal.proofs.Codec.{Bytes, bytes-drop, encoding}

@@ -7,10 +7,10 @@ use native.Mathlib.Omega.{arith}
 use lib.ListN.{length, length-append}
 use lib.Dec.{leb}
 use borrow.Author.Tests.{leb-true, leb-false}
-use Rattle.areas.specs.declared.kinds.Kind.{Kind}
-use Rattle.areas.specs.declared.kinds.Held.{Held}
-use Rattle.areas.specs.Kinds.{placeOf, runOf, put}
-use Rattle.areas.proofs.Promised.{run}
+use Rattle.kinds.specs.declared.Kind.{Kind}
+use Rattle.kinds.specs.declared.Held.{Held}
+use Rattle.kinds.specs.Kinds.{placeOf, runOf, put}
+use Rattle.kinds.proofs.Promised.{run}
 use Rattle.journal.specs.Journal.{Entry, encode, encodes, kept, added, lastOf, othersOf, lastEntry, others, puts, entryFor}
 use Rattle.journal.specs.Laws.{ReadBack, Encoding, Newest, Undone}
 use Rattle.journal.proofs.Codec as codec

@@ -10,9 +10,9 @@ use lib.Dec.{leb, T}
 use lib.Seq.{drop-drop, take-all, length-take-le}
 use borrow.Author.Tests.{ne-eqb, eq-eqb, le-leb, leb-true}
 use Rattle.digits.proofs.Laid.{part-rest}
-use Rattle.areas.specs.declared.kinds.Held.{Held}
+use Rattle.kinds.specs.declared.Held.{Held}
 use Rattle.areas.specs.Bytes.{twoAt}
-use Rattle.areas.specs.Kinds.{kindOf}
+use Rattle.kinds.specs.Kinds.{kindOf}
 use Rattle.digits.proofs.Inverse.{and-left, and-right}
 use Rattle.journal.specs.Journal.{Entry, encode, entryFits, frontOf, whole, entryAt, entriesIn}
 

@@ -4,10 +4,10 @@ use mathlib.Core.Bool.{Bool, true, false, cond, _&&_}
 use mathlib.Core.List.{List, [], _∷_, _++_}
 use lib.ListN.{length, take, drop, getD, replicate}
 use lib.Dec.{leb, eqb}
-use Rattle.areas.specs.declared.kinds.Kind.{Kind}
-use Rattle.areas.specs.declared.kinds.Held.{Held}
+use Rattle.kinds.specs.declared.Kind.{Kind}
+use Rattle.kinds.specs.declared.Held.{Held}
 use Rattle.areas.specs.Bytes.{twoOf, twoAt}
-use Rattle.areas.specs.Kinds.{kindOf, holds, put}
+use Rattle.kinds.specs.Kinds.{kindOf, holds, put}
 
 -- "one entry: tag (50H points, 53H columns), [..] start number (2), the old bytes of what was named"
 pub record Entry : Type 0 where

@@ -4,10 +4,10 @@ use mathlib.Core.Path.{_≡_}
 use mathlib.Core.Bool.{true}
 use mathlib.Core.List.{List, [], _∷_, _++_}
 use lib.ListN.{length, take, drop, getD}
-use Rattle.areas.specs.declared.kinds.Kind.{Kind}
-use Rattle.areas.specs.declared.kinds.Held.{Held}
+use Rattle.kinds.specs.declared.Kind.{Kind}
+use Rattle.kinds.specs.declared.Held.{Held}
 use Rattle.journal.specs.declared.Last.{Last}
-use Rattle.areas.specs.Kinds.{kindOf, runOf, put}
+use Rattle.kinds.specs.Kinds.{kindOf, runOf, put}
 use Rattle.journal.specs.Journal.{Entry, encode, encodes, entryFits, whole, entriesIn, kept, added, areaOf, lastEntry, others, puts, entryFor}
 
 -- what an add, and a step back, leave of the journal: every byte, and the used length that is handed on

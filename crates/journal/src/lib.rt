@@ -1,18 +1,18 @@
 // The journal: entries in a lent area, adding one, stepping back (document 01, "Journal").
 use areas::bytes::put_two;
 use areas::bytes::two_at;
-use areas::kinds::Held;
-use areas::kinds::Kind;
 use areas::runs::clear_run;
 use areas::runs::move_run;
 use areas::runs::put_run;
+use kinds::Held;
+use kinds::Kind;
 ghost use mathlib.Core.Path.{_≡_};
 ghost use mathlib.Core.Bool.{true};
 ghost use mathlib.Core.List.{_∷_, _++_};
 ghost use Prim.Native.Nat.{_+_, _-_, _≤_, _<_};
 ghost use lib.ListN.{length, take, drop, replicate};
 ghost use Rattle.areas.specs.Bytes.{twoOf};
-ghost use Rattle.areas.specs.Kinds.{Sound, sizeOf};
+ghost use Rattle.kinds.specs.Kinds.{Sound, sizeOf};
 ghost use Rattle.digits.specs.Laid.{laid};
 ghost use Rattle.journal.specs.Journal.{encode, encodes, entryFits, frontOf, whole, entriesIn, kept, added, others, puts, entryFor};
 ghost use Rattle.journal.specs.Laws.{Holds, Good, Stands};

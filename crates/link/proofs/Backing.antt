@@ -7,10 +7,10 @@ use native.Mathlib.Omega.{arith}
 use lib.Dec.{eqb}
 use lib.ListN.{length, take, drop, replicate}
 use borrow.Author.Tests.{eqb-true, eqb-false}
-use Rattle.areas.specs.declared.kinds.Kind.{Kind}
-use Rattle.areas.specs.declared.kinds.Held.{Held}
-use Rattle.areas.specs.Kinds.{Sound, pointsTag, columnsTag, pointsOf, columnsOf, kindOf, sizeOf}
-use Rattle.areas.proofs.Known.{kind-points, kind-columns, tag-of, sized}
+use Rattle.kinds.specs.declared.Kind.{Kind}
+use Rattle.kinds.specs.declared.Held.{Held}
+use Rattle.kinds.specs.Kinds.{Sound, pointsTag, columnsTag, pointsOf, columnsOf, kindOf, sizeOf}
+use Rattle.kinds.proofs.Known.{kind-points, kind-columns, tag-of, sized}
 use Rattle.journal.specs.Journal.{Entry, encodes, entriesIn, whole, areaOf, lastEntry, others, entryFits, puts, entryFor}
 use Rattle.journal.specs.Laws.{Holds, Good, Stands}
 use Rattle.journal.specs.declared.Last.{Last}

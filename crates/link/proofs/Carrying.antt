@@ -13,11 +13,11 @@ use Rattle.digits.specs.Digits.{allDigits, numberOf}
 use Rattle.digits.proofs.Inverse.{inverse, and-left, and-right}
 use Rattle.digits.proofs.Bools.{was-not}
 use Rattle.frames.specs.Frame.{contentIn}
-use Rattle.areas.specs.declared.kinds.Kind.{Kind}
-use Rattle.areas.specs.declared.kinds.Held.{Held}
-use Rattle.areas.specs.Kinds.{Sound, pointsTag, columnsTag, pointsOf, columnsOf, kindOf, holds, sizeOf}
+use Rattle.kinds.specs.declared.Kind.{Kind}
+use Rattle.kinds.specs.declared.Held.{Held}
+use Rattle.kinds.specs.Kinds.{Sound, pointsTag, columnsTag, pointsOf, columnsOf, kindOf, holds, sizeOf}
 use Rattle.areas.specs.Pairs.{bytesIn}
-use Rattle.areas.proofs.Known.{kind-points, kind-columns, within}
+use Rattle.kinds.proofs.Known.{kind-points, kind-columns, within}
 use Rattle.areas.proofs.Paired.{length-bytesIn}
 use Rattle.points.specs.Point.{lengthOf, pointOf, slotOf, slotsOf}
 use Rattle.points.proofs.Slotted.{length-pointSlot}

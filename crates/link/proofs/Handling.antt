@@ -12,11 +12,11 @@ use Rattle.digits.specs.Digits.{allDigits, numberOf}
 use Rattle.digits.proofs.Inverse.{inverse}
 use Rattle.digits.proofs.Laid.{part-rest}
 use Rattle.frames.specs.Frame.{contentIn}
-use Rattle.areas.specs.declared.kinds.Kind.{Kind}
-use Rattle.areas.specs.declared.kinds.Held.{Held}
-use Rattle.areas.specs.Kinds.{pointsTag, columnsTag, pointsOf, columnsOf, kindOf, heldBy, holds, placeOf, sizeOf}
+use Rattle.kinds.specs.declared.Kind.{Kind}
+use Rattle.kinds.specs.declared.Held.{Held}
+use Rattle.kinds.specs.Kinds.{pointsTag, columnsTag, pointsOf, columnsOf, kindOf, heldBy, holds, placeOf, sizeOf}
 use Rattle.areas.specs.Pairs.{bytesIn}
-use Rattle.areas.proofs.Known.{kind-points, kind-columns, within, room}
+use Rattle.kinds.proofs.Known.{kind-points, kind-columns, within, room}
 use Rattle.points.specs.Point.{fillsOf, slotsOf}
 use Rattle.points.proofs.Parts.{all-drop}
 use Rattle.messages.specs.declared.table.Follows.the-variants.{TenBytes, AxisPattern, Points, RunBytes}

@@ -3,4 +3,3 @@ pub mod Carrying
 pub mod Outcomes
 pub mod Handling
 pub mod Backing
-pub mod Lent

@@ -9,10 +9,10 @@ use Rattle.digits.specs.Laid.{laid}
 use Rattle.digits.proofs.Laid.{laid-nothing}
 use Rattle.frames.specs.Frame.{errorOf, replyOf, normal}
 use Rattle.frames.proofs.Closing.{length-reply}
-use Rattle.areas.specs.declared.kinds.Kind.{Kind}
-use Rattle.areas.specs.declared.kinds.Held.{Held}
-use Rattle.areas.specs.Kinds.{pointsTag, columnsTag, pointsOf, columnsOf, kindOf, sizeOf, put}
-use Rattle.areas.proofs.Known.{own-kind, kind-points, kind-columns, tag-of}
+use Rattle.kinds.specs.declared.Kind.{Kind}
+use Rattle.kinds.specs.declared.Held.{Held}
+use Rattle.kinds.specs.Kinds.{pointsTag, columnsTag, pointsOf, columnsOf, kindOf, sizeOf, put}
+use Rattle.kinds.proofs.Known.{own-kind, kind-points, kind-columns, tag-of}
 use Rattle.journal.specs.Journal.{encodes, entriesIn, added, areaOf, puts, entryFor}
 use Rattle.messages.specs.declared.table.Action.{Action}
 use Rattle.messages.specs.declared.table.Message.{Message}

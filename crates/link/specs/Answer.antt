@@ -7,8 +7,8 @@ use lib.Dec.{eqb}
 use lib.ListN.{drop, replicate}
 use Rattle.digits.specs.Digits.{numberOf}
 use Rattle.frames.specs.Frame.{contentIn, replyOf, errorOf, normal}
-use Rattle.areas.specs.declared.kinds.Held.{Held}
-use Rattle.areas.specs.Kinds.{pointsOf, kindOf, placeOf}
+use Rattle.kinds.specs.declared.Held.{Held}
+use Rattle.kinds.specs.Kinds.{pointsOf, kindOf, placeOf}
 use Rattle.areas.specs.Pairs.{bytesIn}
 use Rattle.points.specs.Point.{slotsOf}
 use Rattle.messages.specs.declared.table.Action.{Action}

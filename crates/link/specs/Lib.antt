@@ -1,3 +1,2 @@
 pub mod Answer
 pub mod Contract
-pub mod Laws

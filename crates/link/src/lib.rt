@@ -1,9 +1,5 @@
 // The link: every frame answered, and the step back (document 01 whole).
-use areas::kinds::Held;
-use areas::kinds::Kind;
 use axes::Axes;
-use axes::AxisRecord;
-use axes::axes_of;
 use calls::Kept;
 use calls::Lengths;
 use calls::Settings;
@@ -12,6 +8,8 @@ use frames::replies::error_reply;
 use journal::find_last;
 use journal::remove;
 use journal::restore;
+use kinds::Held;
+use kinds::Kind;
 use messages::Asked;
 use messages::content;
 use messages::judge;
@@ -33,10 +31,9 @@ ghost use Prim.Native.Nat.{_+_, _≤_};
 ghost use lib.ListN.{length};
 ghost use Rattle.digits.specs.Laid.{laid};
 ghost use Rattle.frames.specs.Frame.{errorOf};
-ghost use Rattle.areas.specs.Kinds.{Sound, pointsOf, columnsOf, sizeOf};
+ghost use Rattle.kinds.specs.Kinds.{Sound, pointsOf, columnsOf, sizeOf};
 ghost use Rattle.journal.specs.Journal.{puts, entryFor};
 ghost use Rattle.journal.specs.Laws.{Good};
-ghost use Rattle.axes.specs.Run.{lentAxes};
 ghost use Rattle.calls.specs.Calls.{areasOf, callOf};
 ghost use Rattle.link.specs.Contract.{Heard, Answers, StepsBack};
 
@@ -193,26 +190,6 @@ pub fn answer(
             reply,
         ),
     }
-}
-
-// The same answer with the axis records as the motion board lends them: any count.
-pub fn answer_lent(
-    frame: &[u8],
-    points: &mut [u8],
-    columns: &mut [u8],
-    journal: &mut [u8],
-    kept: Kept,
-    records: &[AxisRecord],
-    settings: Settings,
-    reply: &mut [u8],
-) -> Answered
-    ensures { λ r. ⌜ Answers
-        (callOf (now (frame .entry)) (lentAxes (now (records .entry))) settings (now (reply .entry))
-        (areasOf (now (points .entry)) (now (columns .entry)) (now (journal .entry)) kept))
-        r (areasOf (now (points .exit)) (now (columns .exit)) (now (journal .exit)) (r .kept)) (now (reply .exit)) ⌝ }
-{
-    let axes = axes_of(records);
-    answer(frame, points, columns, journal, kept, axes, settings, reply)
 }
 
 // An entry's bytes put back into the area of its kind.

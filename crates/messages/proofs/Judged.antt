@@ -9,9 +9,9 @@ use lib.ListN.{length}
 use borrow.Author.Tests.{eqb-true, eqb-false, eq-eqb, ne-eqb, le-leb, lt-leb, not-false}
 use Rattle.digits.specs.Digits.{allDigits}
 use Rattle.frames.specs.Frame.{contentIn}
-use Rattle.areas.specs.declared.kinds.Held.{Held}
-use Rattle.areas.specs.declared.kinds.Kind.{Kind}
-use Rattle.areas.specs.Kinds.{kindOf, holds}
+use Rattle.kinds.specs.declared.Held.{Held}
+use Rattle.kinds.specs.declared.Kind.{Kind}
+use Rattle.kinds.specs.Kinds.{kindOf, holds}
 use Rattle.points.specs.Point.{fillsOf}
 use Rattle.messages.specs.declared.table.Follows.{Follows}
 use Rattle.messages.specs.declared.table.Follows.the-variants.{Nothing, TenBytes, AxisPattern, Points, RunBytes}

@@ -7,7 +7,7 @@ use native.Mathlib.Omega.{arith}
 use lib.Dec.{eqb}
 use Rattle.digits.specs.Digits.{allDigits, numberOf}
 use Rattle.frames.specs.Frame.{messageIn}
-use Rattle.areas.specs.Kinds.{pointsTag, columnsTag}
+use Rattle.kinds.specs.Kinds.{pointsTag, columnsTag}
 use Rattle.messages.specs.declared.table.Follows.the-variants.{TenBytes, AxisPattern, Points, RunBytes}
 use Rattle.messages.specs.declared.table.Action.{Action}
 use Rattle.messages.specs.declared.table.Action.the-variants.{SayBack, CountPoints, ListPoints, ReadRun, AxisStatus, WritePoints, ClearRun, ChangeRun}

@@ -5,8 +5,8 @@ use mathlib.Core.List.{List, [], _∷_}
 use lib.Dec.{leb, eqb}
 use Rattle.digits.specs.Digits.{allDigits}
 use Rattle.frames.specs.Frame.{contentIn}
-use Rattle.areas.specs.declared.kinds.Held.{Held}
-use Rattle.areas.specs.Kinds.{kindOf, holds}
+use Rattle.kinds.specs.declared.Held.{Held}
+use Rattle.kinds.specs.Kinds.{kindOf, holds}
 use Rattle.messages.specs.declared.table.Message.{Message}
 use Rattle.messages.specs.declared.table.Named.{Named}
 use Rattle.messages.specs.declared.table.Named.the-variants.{Known, Unknown}

@@ -8,8 +8,8 @@ use lib.Dec.{leb, eqb}
 use lib.ListN.{length, take, drop}
 use Rattle.digits.specs.Digits.{allDigits, numberOf}
 use Rattle.frames.specs.Frame.{messageIn}
-use Rattle.areas.specs.declared.kinds.Held.{Held}
-use Rattle.areas.specs.Kinds.{pointsTag, columnsTag, kindOf}
+use Rattle.kinds.specs.declared.Held.{Held}
+use Rattle.kinds.specs.Kinds.{pointsTag, columnsTag, kindOf}
 use Rattle.points.specs.Point.{lengthOf, fillsOf}
 use Rattle.messages.specs.declared.table.Follows.{Follows}
 use Rattle.messages.specs.declared.table.Follows.the-variants.{Nothing, TenBytes, AxisPattern, Points, RunBytes}

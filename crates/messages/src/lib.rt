@@ -1,7 +1,7 @@
 // What a frame asks: a read-only judgement (document 01, "Each message" and refusals 101 to 107).
-use areas::kinds::Held;
-use areas::kinds::Kind;
 use digits::Field;
+use kinds::Held;
+use kinds::Kind;
 use points::reading::fills;
 use points::reading::point_length;
 use table::Follows;
@@ -15,7 +15,7 @@ ghost use lib.Dec.{leb, eqb};
 ghost use lib.ListN.{length};
 ghost use Rattle.digits.specs.Digits.{allDigits, numberOf};
 ghost use Rattle.frames.specs.Frame.{contentIn};
-ghost use Rattle.areas.specs.Kinds.{Sound, holds};
+ghost use Rattle.kinds.specs.Kinds.{Sound, holds};
 ghost use Rattle.points.specs.Point.{fillsOf};
 ghost use Rattle.messages.specs.declared.table.Named.the-variants.{Known};
 ghost use Rattle.messages.specs.Table.{messageOf, fieldsOf, programIn, startIn, countIn, followsRight, Narrow};

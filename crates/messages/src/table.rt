@@ -1,8 +1,8 @@
 // The messages that the board answers, a row each (document 01, "What the board answers" and "Each message").
-use areas::kinds::Kind;
+use kinds::Kind;
 ghost use mathlib.Core.Path.{_≡_};
 ghost use mathlib.Core.Bool.{false};
-ghost use Rattle.areas.specs.Kinds.{pointsTag};
+ghost use Rattle.kinds.specs.Kinds.{pointsTag};
 ghost use Rattle.messages.specs.declared.table.Named.the-variants.{Known};
 ghost use Rattle.messages.specs.Table.{row, messageNumbered};
 

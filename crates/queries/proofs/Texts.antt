@@ -11,8 +11,8 @@ use Rattle.digits.specs.Digits.{digitsOf}
 use Rattle.digits.specs.Laid.{laid}
 use Rattle.digits.proofs.Laid.{laid-on}
 use Rattle.digits.proofs.Inverse.{as-many}
-use Rattle.areas.specs.declared.kinds.Kind.{Kind}
-use Rattle.areas.specs.Kinds.{placeOf, runOf}
+use Rattle.kinds.specs.declared.Kind.{Kind}
+use Rattle.kinds.specs.Kinds.{placeOf, runOf}
 use Rattle.areas.specs.Pairs.{digitsIn}
 use Rattle.areas.proofs.Paired.{length-digitsIn}
 use Rattle.axes.specs.declared.AxisRecord.{AxisRecord}

@@ -7,8 +7,8 @@ use lib.ListN.{length, drop, getD}
 use mir.Syntax.{w32}
 use mir.Val.{ofZ}
 use Rattle.digits.specs.Digits.{digitsOf}
-use Rattle.areas.specs.declared.kinds.Kind.{Kind}
-use Rattle.areas.specs.Kinds.{runOf}
+use Rattle.kinds.specs.declared.Kind.{Kind}
+use Rattle.kinds.specs.Kinds.{runOf}
 use Rattle.areas.specs.Pairs.{digitsIn}
 use Rattle.axes.specs.declared.AxisRecord.{AxisRecord}
 use Rattle.axes.specs.Records.{zeroRecord}

@@ -1,10 +1,10 @@
 // The replies to queries, laid into the lent reply area (document 01, "Each message").
-use areas::kinds::Kind;
 use areas::pairs::put_digits;
 use areas::runs::put_run;
 use axes::AxisRecord;
 use digits::put_number;
 use frames::replies::close_reply;
+use kinds::Kind;
 use messages::table::Message;
 use points::patterns::ones;
 use points::point::Point;
@@ -17,7 +17,7 @@ ghost use Prim.Native.Nat.{_+_, _*_, _≤_, _<_};
 ghost use lib.ListN.{length};
 ghost use Rattle.digits.specs.Digits.{digitsOf};
 ghost use Rattle.digits.specs.Laid.{laid};
-ghost use Rattle.areas.specs.Kinds.{sizeOf, placeOf};
+ghost use Rattle.kinds.specs.Kinds.{sizeOf, placeOf};
 ghost use Rattle.points.specs.Axes.{axesOf};
 ghost use Rattle.points.specs.Point.{pointDigits};
 ghost use Rattle.messages.specs.Table.{Narrow};

@@ -11,8 +11,8 @@ use lib.Seq.{drop-cons}
 use borrow.Author.Tests.{leb-true, eqb-true, le-leb, lt-leb}
 use Rattle.digits.proofs.Inverse.{and-left, and-right}
 use Rattle.frames.specs.Frame.{command, CR, LF, shaped}
-use Rattle.areas.specs.declared.kinds.Held.{Held}
-use Rattle.areas.specs.Kinds.{Sound, heldBy}
+use Rattle.kinds.specs.declared.Held.{Held}
+use Rattle.kinds.specs.Kinds.{Sound, heldBy}
 use Rattle.journal.specs.Journal.{whole}
 use Rattle.axes.specs.declared.AxisRecord.{AxisRecord}
 use Rattle.axes.specs.Records.{zeroRecord}

@@ -5,7 +5,7 @@ use mathlib.Core.List.{List, [], _∷_, _++_}
 use lib.Dec.{ltb, leb, eqb}
 use lib.ListN.{length, take}
 use Rattle.frames.specs.Frame.{contentIn, shaped, sumPasses, stationPasses}
-use Rattle.areas.specs.declared.kinds.Held.{Held}
+use Rattle.kinds.specs.declared.Held.{Held}
 use Rattle.journal.specs.Journal.{whole}
 use Rattle.axes.specs.declared.AxisRecord.{AxisRecord}
 use Rattle.axes.specs.declared.Axes.{Axes}

@@ -1,5 +1,4 @@
 // The tests behind the refusals without a reply, and the step back's (document 01, "Refusal numbers, in the order tested").
-use areas::kinds::Held;
 use axes::Axes;
 use axes::AxisRecord;
 use calls::Kept;
@@ -10,9 +9,10 @@ use frames::checks::is_ours;
 use frames::checks::is_shaped;
 use frames::checks::passes_sum;
 use journal::is_whole;
+use kinds::Held;
 use points::point::Point;
 ghost use mathlib.Core.Path.{_≡_};
-ghost use Rattle.areas.specs.Kinds.{Sound};
+ghost use Rattle.kinds.specs.Kinds.{Sound};
 ghost use Rattle.messages.specs.Rows.{firstOf};
 ghost use Rattle.refusals.specs.Refusals.{pointsFit, journalFits, recordsFit, axesFit, areaRows, frameRows, silentRows, backRows};
 

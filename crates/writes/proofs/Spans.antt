@@ -5,11 +5,11 @@ use mathlib.Core.List.{List}
 use native.Mathlib.Omega.{arith}
 use native.Mathlib.Nat.{add-sub-cancel-left}
 use lib.ListN.{length, take, drop}
-use Rattle.areas.specs.declared.kinds.Kind.{Kind}
-use Rattle.areas.specs.declared.kinds.Held.{Held}
+use Rattle.kinds.specs.declared.Kind.{Kind}
+use Rattle.kinds.specs.declared.Held.{Held}
 use Rattle.digits.specs.Laid.{laid}
-use Rattle.areas.specs.Kinds.{kindOf, runOf, put, placeOf, sizeOf}
-use Rattle.areas.proofs.Known.{Sized, sized, within, room, run-length}
+use Rattle.kinds.specs.Kinds.{kindOf, runOf, put, placeOf, sizeOf}
+use Rattle.kinds.proofs.Known.{Sized, sized, within, room, run-length}
 use Rattle.journal.specs.Laws.{Good}
 use Rattle.journal.proofs.Fitting.{good}
 use Rattle.writes.specs.Writes.{Ready, entryOf}

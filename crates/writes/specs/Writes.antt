@@ -4,9 +4,9 @@ use mathlib.Core.Path.{_≡_}
 use mathlib.Core.Bool.{true}
 use mathlib.Core.List.{List}
 use lib.ListN.{length, take}
-use Rattle.areas.specs.declared.kinds.Kind.{Kind}
-use Rattle.areas.specs.declared.kinds.Held.{Held}
-use Rattle.areas.specs.Kinds.{Sound, kindOf, holds, runOf, put, sizeOf}
+use Rattle.kinds.specs.declared.Kind.{Kind}
+use Rattle.kinds.specs.declared.Held.{Held}
+use Rattle.kinds.specs.Kinds.{Sound, kindOf, holds, runOf, put, sizeOf}
 use Rattle.journal.specs.Journal.{Entry, whole, entriesIn, added, entryFor}
 use Rattle.journal.specs.Laws.{Holds}
 

@@ -1,9 +1,9 @@
 // The writes: a run of one kind is put into its area, and what stood there goes into the journal (document 01, "Each message" and "Journal").
-use areas::kinds::Held;
-use areas::kinds::Kind;
 use areas::pairs::set_bytes;
 use areas::runs::clear_run;
 use journal::add;
+use kinds::Held;
+use kinds::Kind;
 use slots::lay_points;
 ghost use mathlib.Core.Path.{_≡_};
 ghost use mathlib.Core.Bool.{true};

@@ -4,8 +4,8 @@ use Prim.Native.Nat.{ℕ, _+_, _-_}
 use native.Mathlib.Omega.{arith}
 use lib.ListN.{getD}
 use Rattle.areas.specs.Bytes.{twoAt}
-use Rattle.areas.specs.Kinds.{kindOf}
-use Rattle.areas.proofs.Known.{Sized, sized}
+use Rattle.kinds.specs.Kinds.{kindOf}
+use Rattle.kinds.proofs.Known.{Sized, sized}
 use Rattle.journal.specs.Journal.{entryFits}
 use Rattle.journal.proofs.Walk.{front-is, front-none}
 use borrow.Author.Needs.{needs}

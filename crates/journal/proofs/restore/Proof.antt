@@ -2,7 +2,7 @@ use mathlib.Core.Path.{ap, _∙_}
 use Prim.Native.Nat.{ℕ}
 use native.Mathlib.Omega.{arith}
 use lib.ListN.{length}
-use Rattle.areas.specs.Kinds.{put}
+use Rattle.kinds.specs.Kinds.{put}
 use Rattle.digits.specs.Laid.{laid}
 use Rattle.journal.specs.Journal.{entryFor}
 use Rattle.journal.proofs.Fitting.{Fit, fit, puts-own, puts-other}

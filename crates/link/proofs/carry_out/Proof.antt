@@ -4,8 +4,8 @@ use mathlib.Core.List.{List}
 use native.Mathlib.Omega.{arith}
 use lib.ListN.{length, take, drop}
 use Rattle.frames.specs.Frame.{contentIn}
-use Rattle.areas.specs.declared.kinds.Held.{Held}
-use Rattle.areas.specs.Kinds.{kindOf}
+use Rattle.kinds.specs.declared.Held.{Held}
+use Rattle.kinds.specs.Kinds.{kindOf}
 use Rattle.queries.specs.Laws.{Replied}
 use Rattle.messages.specs.declared.table.Message.{Message}
 use Rattle.messages.specs.Table.{fieldsOf}

@@ -1,7 +1,7 @@
 use mathlib.Core.Path.{_≡_, refl, sym, ap, _∙_}
 use native.Mathlib.Omega.{arith}
-use Rattle.areas.specs.Kinds.{pointsTag, columnsTag, sizeOf}
-use Rattle.areas.proofs.Known.{kind-points, kind-columns}
+use Rattle.kinds.specs.Kinds.{pointsTag, columnsTag, sizeOf}
+use Rattle.kinds.proofs.Known.{kind-points, kind-columns}
 use Rattle.link.proofs.Backing.{restore-needs, same-puts}
 use borrow.Author.Needs.{needs}
 use Rattle.link.proofs.put_back.Statement.{statement}

@@ -8,9 +8,9 @@ use lib.ListN.{length, take, drop}
 use Rattle.digits.specs.Digits.{allDigits}
 use Rattle.digits.proofs.Bools.{was-false, was-true, was-not}
 use Rattle.digits.proofs.Laid.{part-rest}
-use Rattle.areas.specs.declared.kinds.Kind.{Kind}
-use Rattle.areas.specs.Kinds.{kindOf}
-use Rattle.areas.proofs.Known.{sized}
+use Rattle.kinds.specs.declared.Kind.{Kind}
+use Rattle.kinds.specs.Kinds.{kindOf}
+use Rattle.kinds.proofs.Known.{sized}
 use Rattle.points.proofs.Parts.{all-drop}
 use Rattle.messages.specs.declared.table.Message.{Message}
 use Rattle.messages.specs.Table.{fieldsOf, programIn, startIn, countIn, restIn, followsRight, havePoints}

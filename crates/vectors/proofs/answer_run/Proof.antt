@@ -57,10 +57,10 @@ use Rattle.calls.proofs.Kept.Laws as K′
 use Rattle.calls.specs.declared.Settings.{Settings}
 use Rattle.calls.proofs.Settings as S
 use Rattle.calls.proofs.Settings.Laws as S′
-use Rattle.link.proofs.answer_lent as lent
-use Rattle.link.proofs.answer_lent.Symbol as lent-def
-use Rattle.link.proofs.answer_lent.Symbol.{name as #link·answer-lent}
-use Rattle.link.proofs.answer_lent.Met as lent-thm
+use Rattle.lent.proofs.answer_lent as lent
+use Rattle.lent.proofs.answer_lent.Symbol as lent-def
+use Rattle.lent.proofs.answer_lent.Symbol.{name as #lent·answer-lent}
+use Rattle.lent.proofs.answer_lent.Met as lent-thm
 use Rattle.vectors.proofs.answer_run.Key.{name as #key}
 use Rattle.vectors.proofs.answer_run as fun
 use Rattle.vectors.proofs.answer_run.Statement as stated
@@ -207,7 +207,7 @@ module _ {M : Type 1} (𝓤 : URA M) (H : Heap 𝓤) (A : Atoms 𝓤) (W : Given
         -- [true, four times; the tokens; the last of reply; true; the last of journal, of columns, of points; the result]
         move ! (0 ∷ 9 ∷ 8 ∷ 7 ∷ 1 ∷ 2 ∷ 3 ∷ 5 ∷ 6 ∷ []) $ group ! 9 $ move ! (0 ∷ 2 ∷ []) $ join ! $ move ! (1 ∷ 0 ∷ []) $ join ! $ frame ! $ done !))))
 
-  module _ (C : Calls 𝓤 H) (Λ : Loops 𝓤 H) (fm : FmC 𝓤 H (W .laws) C) (known : Triple 𝓤 (C #link·answer-lent) (AnswerLent 𝓤 H A mem run)) where
+  module _ (C : Calls 𝓤 H) (Λ : Loops 𝓤 H) (fm : FmC 𝓤 H (W .laws) C) (known : Triple 𝓤 (C #lent·answer-lent) (AnswerLent 𝓤 H A mem run)) where
     walk : Room u8 (length (now f)) → Room u8 (length (now p)) → Room u8 (length (now c)) → Room u8 (length (now j)) → Room u8 (length (now y))
         → ent 𝓤 (onEntry 𝓤 H A fun.signature κs₅ qs₅ a vals) (WpFn 𝓤 H C Λ code.function (bytes-of f ∷ bytes-of p ∷ bytes-of c ∷ bytes-of j ∷ K′.lowered k ∷ w ∷ S′.lowered t ∷ bytes-of y ∷ []) Post)
     walk gf gp gc gj gy =
@@ -252,7 +252,7 @@ module _ {M : Type 1} (𝓤 : URA M) (H : Heap 𝓤) (A : Atoms 𝓤) (W : Given
         by ! (exits α l9 γ z v ws)))))))))))))))))))))))))))
 
 module _ {M : Type 1} (𝓤 : URA M) (H : Heap 𝓤) (A : Atoms 𝓤) (W : Given 𝓤 H A) (mem : Memory → SProp 𝓤) (run : Routine → Fun 𝓤) where
-  fun-walks : (C : Calls 𝓤 H) (Λ : Loops 𝓤 H) → FmC 𝓤 H (W .laws) C → Triple 𝓤 (C #link·answer-lent) (AnswerLent 𝓤 H A mem run) → Walks 𝓤 H A fun.ended stayed (WpFn 𝓤 H C Λ code.function) (fun.clauses 𝓤 H A mem run)
+  fun-walks : (C : Calls 𝓤 H) (Λ : Loops 𝓤 H) → FmC 𝓤 H (W .laws) C → Triple 𝓤 (C #lent·answer-lent) (AnswerLent 𝓤 H A mem run) → Walks 𝓤 H A fun.ended stayed (WpFn 𝓤 H C Λ code.function) (fun.clauses 𝓤 H A mem run)
   fun-walks C Λ fm known = walked 𝓤 H A fun.ended stayed (fun.clauses 𝓤 H A mem run) (WpFn 𝓤 H C Λ code.function)
       (λ κs. (slice-vals, (slice-vals, (slice-vals, (slice-vals, (LL.vals K.the-type K′.the-laws, (array-vals (LL.vals T.the-type T′.the-laws), (LL.vals S.the-type S′.the-laws, (slice-vals, tt)))))))))
       (λ κs. (shr-slice-tells (named 0) (κs .0) u8, (mut-slice-tells (named 1) (κs .1 .0) u8, (mut-slice-tells (named 2) (κs .1 .1 .0) u8, (mut-slice-tells (named 3) (κs .1 .1 .1 .0) u8, (LL.tells K.the-type K′.the-laws, (array-tells T.the-row (LL.vals T.the-type T′.the-laws) (LL.tells T.the-type T′.the-laws) 8, (LL.tells S.the-type S′.the-laws, (mut-slice-tells (named 4) (κs .1 .1 .1 .1 .0) u8, tt)))))))))
@@ -262,7 +262,7 @@ module _ {M : Type 1} (𝓤 : URA M) (H : Heap 𝓤) (A : Atoms 𝓤) (W : Given
       (are .0 .0 .1) (are .1 .0 .0 .1) (are .1 .1 .0 .0 .1) (are .1 .1 .1 .0 .0 .1) (are .1 .1 .1 .1 .1 .1 .1 .0 .0 .1)))
 
 fun-meets : {M : Type 1} (𝓤 : URA M) (H : Heap 𝓤) (A : Atoms 𝓤) (W : Given 𝓤 H A) (mem : Memory → SProp 𝓤) (run : Routine → Fun 𝓤) (𝓣 : Tables 𝓤 H)
-    → Triple 𝓤 (𝓣 .C #link·answer-lent) (AnswerLent 𝓤 H A mem run) → Meets 𝓤 H A fun.signature (WpFn 𝓤 H (𝓣 .C) (𝓣 .Λ) code.function) (fun.spec 𝓤 H A mem run)
+    → Triple 𝓤 (𝓣 .C #lent·answer-lent) (AnswerLent 𝓤 H A mem run) → Meets 𝓤 H A fun.signature (WpFn 𝓤 H (𝓣 .C) (𝓣 .Λ) code.function) (fun.spec 𝓤 H A mem run)
 fun-meets 𝓤 H A W mem run 𝓣 known =
     walk-meets 𝓤 H A fun.ended stayed W (goes-dropped 𝓤 H A W 5 (shrSliceOf (0 ∷ []) tt (plain (λ _. u8))) yes (λ κs x f. refl), (goes-gave-slice 𝓤 H A W 5 1 tt (plain (λ _. u8)), (goes-gave-slice 𝓤 H A W 5 2 tt (plain (λ _. u8)), (goes-gave-slice 𝓤 H A W 5 3 tt (plain (λ _. u8)), (goes-dropped 𝓤 H A W 5 (plain (λ _. K.the-row)) yes (λ κs x f. refl), (goes-dropped 𝓤 H A W 5 (arrayOf (plain (λ _. T.the-row)) 8) yes (λ κs x f. refl), (goes-dropped 𝓤 H A W 5 (plain (λ _. S.the-row)) yes (λ κs x f. refl), (goes-gave-slice 𝓤 H A W 5 4 tt (plain (λ _. u8)), tt))))))))
     (fun.clauses 𝓤 H A mem run) (WpFn 𝓤 H (𝓣 .C) (𝓣 .Λ) code.function) (WpFn-mono 𝓤 H (W .laws) 𝓣 code.function)
@@ -274,4 +274,4 @@ answer-run-spec 𝓤 H 𝓜 𝓖 𝓡 =
     entered 𝓤 H (tripleOf 𝓤 H (𝓖 .A) fun.signature (fun.spec 𝓤 H (𝓖 .A) (𝓜 .mem) (𝓡 .run)))
     (tables 𝓤 H 𝓜 𝓡 code.env .C) (tables 𝓤 H 𝓜 𝓡 code.env .Λ) #key code.function (code.unfolded 𝓤 H 𝓜 𝓡)
     (fun-meets 𝓤 H (𝓖 .A) (givenOf 𝓤 H 𝓜 𝓖) (𝓜 .mem) (𝓡 .run) (tablesOf 𝓤 H 𝓜 (tables 𝓤 H 𝓜 𝓡 code.env))
-    (cited 𝓤 H (AnswerLent 𝓤 H (𝓖 .A) (𝓜 .mem) (𝓡 .run)) 𝓜 𝓡 code.env #link·answer-lent lent-def.routine code.calls-link·answer-lent (lent-thm.met 𝓤 H 𝓜 𝓖 𝓡)))
+    (cited 𝓤 H (AnswerLent 𝓤 H (𝓖 .A) (𝓜 .mem) (𝓡 .run)) 𝓜 𝓡 code.env #lent·answer-lent lent-def.routine code.calls-lent·answer-lent (lent-thm.met 𝓤 H 𝓜 𝓖 𝓡)))

@@ -2,7 +2,7 @@ use Prim.Native.Nat.{ℕ, _+_, _-_, _*_, _≤_, _<_}
 use mathlib.Core.Path.{_≡_, refl, sym, ap, _∙_}
 use native.Mathlib.Omega.{arith}
 use lib.ListN.{length, take, drop}
-use Rattle.areas.specs.Kinds.{placeOf, put}
+use Rattle.kinds.specs.Kinds.{placeOf, put}
 use Rattle.digits.specs.Laid.{laid}
 use Rattle.writes.proofs.Spans.{span, lent}
 use borrow.Author.Needs.{needs}

@@ -1,0 +1,27 @@
+use borrow.Author.Tests.{lt-ltb, le-ltb, le-leb, lt-leb, eq-eqb, ne-eqb}
+use mathlib.Core.Path.{_≡_, refl, sym, ap, _∙_}
+use Rattle.kinds.specs.Kinds.{kindOf}
+use borrow.Author.Needs.{needs}
+use Rattle.kinds.proofs.Held.kind.Statement.{statement}
+use Rattle.kinds.proofs.Held.kind.Tie as tie
+
+points-requires : tie.Need-points-requires
+points-requires c κs = search needs
+
+returns : tie.Need-returns
+unfolding kindOf
+returns c = c .points .ensures ∙ rw (eq-eqb _ _ (c .before .if1 .taken))
+
+columns-requires : tie.Need-columns-requires
+columns-requires c κs = search needs
+
+returns-2 : tie.Need-returns-2
+unfolding kindOf
+returns-2 c = c .columns .ensures ∙ rw (ne-eqb _ _ (c .before .before .if1 .left), eq-eqb _ _ (c .before .if2 .taken))
+
+returns-3 : tie.Need-returns-3
+unfolding kindOf
+returns-3 c = rw (ne-eqb _ _ (c .before .if1 .left), ne-eqb _ _ (c .if2 .left))
+
+pub kind-spec : {M : Type 1} → statement M
+kind-spec = tie.close (tie.spec points-requires returns columns-requires returns-2 returns-3)
