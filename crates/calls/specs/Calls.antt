@@ -5,12 +5,12 @@ use mathlib.Core.List.{List, []}
 use lib.Dec.{eqb}
 use lib.ListN.{length, take, replicate}
 use Rattle.kinds.specs.declared.Held.{Held}
-use Rattle.kinds.specs.Kinds.{pointsTag, columnsTag, pointsOf, columnsOf, heldBy, kindOf, sizeOf, runOf}
+use Rattle.kinds.specs.declared.Lengths.{Lengths}
+use Rattle.kinds.specs.Kinds.{pointsTag, columnsTag, pointsOf, columnsOf, kindOf, sizeOf, runOf}
 use Rattle.journal.specs.Journal.{Entry, encodes, entriesIn, added, areaOf, lastEntry, others, puts, entryFor}
 use Rattle.axes.specs.declared.Axes.{Axes}
 use Rattle.calls.specs.declared.Settings.{Settings}
 use Rattle.calls.specs.declared.Kept.{Kept}
-use Rattle.calls.specs.declared.Lengths.{Lengths}
 
 -- the areas that are used throughout, with the numbers that are kept beside them
 pub record Areas : Type 0 where
@@ -48,12 +48,9 @@ abbrev pub fresh : Held → ℕ → Areas
 fresh held size =
     areasOf (replicate (sizeOf (pointsOf held)) 0) (replicate (sizeOf columnsOf) 0) (replicate size 0) (record { used = 0 })
 
--- the lengths of the areas that things are held in, and what a board holds by them
+-- the lengths of the areas that things are held in
 abbrev pub lengthsOf : Areas → Lengths
 lengthsOf a = record { points = length (a .points); columns = length (a .columns) }
-
-abbrev pub heldIn : Lengths → Held
-heldIn l = heldBy (l .points)
 
 -- the area of a kind, by its tag
 abbrev pub areaIn : ℕ → Areas → List ℕ

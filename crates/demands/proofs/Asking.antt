@@ -23,8 +23,9 @@ use Rattle.messages.specs.declared.Asked.the-variants.{Order}
 use Rattle.messages.specs.Table.{row, messageOf, fieldsOf, startIn, countIn, anyBytes}
 use Rattle.messages.specs.Asked.{askedOf, judged, numberGiven}
 use Rattle.messages.proofs.Judged.{Right, told, ordered}
-use Rattle.calls.specs.declared.Lengths.{Lengths}
-use Rattle.calls.specs.Calls.{Call, Outcome, lengthsOf, heldIn}
+use Rattle.kinds.specs.declared.Lengths.{Lengths}
+use Rattle.kinds.specs.Kinds.{heldIn}
+use Rattle.calls.specs.Calls.{Call, Outcome, lengthsOf}
 use Rattle.refusals.specs.Refusals.{journalFits, silentOf}
 use Rattle.refusals.proofs.Rows.{AreasPass, call-passed, silent-is, past-silent}
 use Rattle.link.specs.Answer.{held, asked, saidBy, textOf, areasAfter, answerOf}

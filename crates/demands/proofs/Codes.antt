@@ -11,7 +11,7 @@ use Rattle.digits.specs.Digits.{byteOf, digitsOf, allDigits, numberOf}
 use Rattle.digits.specs.Text.{text}
 use Rattle.digits.proofs.Inverse.{inverse}
 use Rattle.digits.proofs.Bools.{was-not}
-use Rattle.kinds.specs.Kinds.{columnsTag, kindOf, runOf}
+use Rattle.kinds.specs.Kinds.{columnsTag, kindOf, heldIn, runOf}
 use Rattle.areas.specs.Pairs.{digitsIn}
 use Rattle.areas.proofs.Promised.{every-digit}
 use Rattle.points.proofs.Parts.{all-take, all-drop, all-part}
@@ -21,8 +21,8 @@ use Rattle.messages.specs.declared.table.Message.{Message}
 use Rattle.messages.specs.declared.table.Named.the-variants.{Known}
 use Rattle.messages.specs.Table.{row, fieldsOf, startIn, countIn}
 use Rattle.queries.specs.Replies.{headOf, runText}
-use Rattle.calls.specs.declared.Lengths.{Lengths}
-use Rattle.calls.specs.Calls.{Call, lengthsOf, heldIn, areaIn}
+use Rattle.kinds.specs.declared.Lengths.{Lengths}
+use Rattle.calls.specs.Calls.{Call, lengthsOf, areaIn}
 use Rattle.link.specs.Answer.{saidBy, answerOf}
 use Rattle.link.proofs.Carrying.{fine}
 use Rattle.demands.specs.Survive.{content, startOf, countOf, Accepted, nextCall, CodesSurvive}

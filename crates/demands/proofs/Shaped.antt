@@ -9,7 +9,7 @@ use lib.ListN.{length}
 use borrow.Author.Tests.{eq-eqb, le-leb}
 use Rattle.frames.specs.Frame.{contentIn}
 use Rattle.kinds.specs.declared.Held.{Held}
-use Rattle.kinds.specs.Kinds.{Sound, pointsTag, columnsTag, pointsOf, columnsOf, kindOf, sizeOf}
+use Rattle.kinds.specs.Kinds.{Sound, pointsTag, columnsTag, pointsOf, columnsOf, kindOf, heldIn, sizeOf}
 use Rattle.kinds.proofs.Known.{kind-points, kind-columns}
 use Rattle.journal.specs.Journal.{Entry, encodes}
 use Rattle.journal.specs.Laws.{AllGood}
@@ -18,7 +18,7 @@ use Rattle.journal.proofs.Again.{Again, again}
 use Rattle.messages.specs.Rows.{firstOf}
 use Rattle.messages.specs.Table.{messageOf}
 use Rattle.messages.specs.Asked.{askedRows, askedOf}
-use Rattle.calls.specs.Calls.{Areas, Sent, lengthsOf, heldIn, areaIn, entriesOf}
+use Rattle.calls.specs.Calls.{Areas, Sent, lengthsOf, areaIn, entriesOf}
 use Rattle.refusals.specs.Refusals.{pointsFit, journalFits, axesFit, refusalOf, backRefusalOf}
 use Rattle.refusals.proofs.Rows.{AreasPass, past-areas, back-rows, frameNumber, refusal-is}
 use Rattle.demands.specs.Refused.{asksWrite}

@@ -12,7 +12,7 @@ use Rattle.digits.specs.Laid.{laid}
 use Rattle.digits.specs.Text.{text}
 use Rattle.digits.proofs.Bools.{was-not}
 use Rattle.kinds.specs.declared.Held.{Held}
-use Rattle.kinds.specs.Kinds.{pointsTag, pointsOf, holds, put}
+use Rattle.kinds.specs.Kinds.{pointsTag, pointsOf, holds, put, heldIn}
 use Rattle.kinds.proofs.Known.{kind-points, within}
 use Rattle.points.specs.Point.{effectiveIn}
 use Rattle.points.proofs.Parts.{all-drop}
@@ -25,8 +25,8 @@ use Rattle.messages.specs.declared.table.Named.the-variants.{Known}
 use Rattle.messages.specs.Table.{row, startIn, countIn, patternsFit}
 use Rattle.messages.proofs.Judged.{Right}
 use Rattle.queries.specs.Replies.{listed, joined}
-use Rattle.calls.specs.declared.Lengths.{Lengths}
-use Rattle.calls.specs.Calls.{Call, heldIn}
+use Rattle.kinds.specs.declared.Lengths.{Lengths}
+use Rattle.calls.specs.Calls.{Call}
 use Rattle.refusals.specs.Refusals.{silentOf}
 use Rattle.link.specs.Answer.{held, rest, writes, newBytes, answerOf}
 use Rattle.link.proofs.Carrying.{fine}

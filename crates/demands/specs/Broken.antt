@@ -7,10 +7,10 @@ use mathlib.Core.List.{List, [], _∷_}
 use lib.Dec.{eqb}
 use lib.ListN.{length, take, replicate}
 use Rattle.digits.specs.Text.{text}
-use Rattle.kinds.specs.Kinds.{columnsTag}
+use Rattle.kinds.specs.Kinds.{columnsTag, heldIn}
 use Rattle.journal.specs.Journal.{entryFor}
 use Rattle.axes.specs.Records.{zeroRecord, eightAxes}
-use Rattle.calls.specs.Calls.{Areas, Sent, fresh, lengthsOf, heldIn, putIn, withEntries}
+use Rattle.calls.specs.Calls.{Areas, Sent, fresh, lengthsOf, putIn, withEntries}
 use Rattle.link.specs.Answer.{unanswered, answerOf, backOf}
 use Rattle.demands.specs.Cases.{holding}
 use Rattle.demands.specs.History.{Conduct, ours, Event, frame, stepBack, callOn, Past, past, entries, EveryHistory}

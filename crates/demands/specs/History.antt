@@ -8,8 +8,9 @@ use mathlib.Core.List.{List, [], _∷_, _++_}
 use lib.Dec.{eqb}
 use lib.ListN.{length}
 use Rattle.kinds.specs.declared.Held.{Held}
+use Rattle.kinds.specs.Kinds.{heldIn}
 use Rattle.journal.specs.Journal.{Entry, encodes, added, areaOf, lastEntry, others}
-use Rattle.calls.specs.Calls.{Areas, Sent, Call, Outcome, fresh, lengthsOf, heldIn, areaIn, entriesOf}
+use Rattle.calls.specs.Calls.{Areas, Sent, Call, Outcome, fresh, lengthsOf, areaIn, entriesOf}
 use Rattle.link.specs.Answer.{asked, answerOf, backOf}
 use Rattle.demands.specs.Refused.{asksWrite}
 

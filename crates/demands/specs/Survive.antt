@@ -10,13 +10,13 @@ use Rattle.digits.specs.Laid.{laid}
 use Rattle.digits.specs.Text.{text}
 use Rattle.frames.specs.Frame.{command, normal, CR, LF, contentIn, scOf, replyOf}
 use Rattle.kinds.specs.declared.Kind.{Kind}
-use Rattle.kinds.specs.Kinds.{pointsTag, columnsTag, pointsOf, kindOf, placeOf, runOf}
+use Rattle.kinds.specs.Kinds.{pointsTag, columnsTag, pointsOf, kindOf, heldIn, placeOf, runOf}
 use Rattle.points.specs.Point.{lengthOf, effectiveIn}
 use Rattle.messages.specs.declared.table.Message.{Message}
 use Rattle.messages.specs.declared.table.Named.the-variants.{Known}
 use Rattle.messages.specs.Table.{messageOf, startIn, countIn}
 use Rattle.queries.specs.Replies.{joined}
-use Rattle.calls.specs.Calls.{Areas, Call, Outcome, callOf, lengthsOf, heldIn, areaIn}
+use Rattle.calls.specs.Calls.{Areas, Call, Outcome, callOf, lengthsOf, areaIn}
 use Rattle.link.specs.Answer.{held, rest, answerOf}
 use Rattle.demands.specs.Cases.{bench, blank}
 

@@ -7,6 +7,7 @@ use lib.Dec.{leb, eqb}
 use Rattle.digits.specs.Laid.{laid}
 use Rattle.kinds.specs.declared.Kind.{Kind}
 use Rattle.kinds.specs.declared.Held.{Held}
+use Rattle.kinds.specs.declared.Lengths.{Lengths}
 
 -- "tag (50H points, 53H columns)"
 abbrev pub pointsTag : ℕ
@@ -30,8 +31,8 @@ kindOf h tag =
     (cond (eqb tag columnsTag) columnsOf (record { tag = tag; first = 0; unit = 1; held = 0; most = 0 }))
 
 -- "N is the area's length over 40 and isn't handed over."
-abbrev pub heldBy : ℕ → Held
-heldBy points = record { points = points / 40 }
+abbrev pub heldIn : Lengths → Held
+heldIn l = record { points = l .points / 40 }
 
 -- what the tests of the areas assure of what is held: "N from 1 to 1,500"
 pub record Sound (h : Held) : Type 0 where

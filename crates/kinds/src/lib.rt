@@ -1,7 +1,7 @@
 // Kinds of numbered things, as values (document 01, "The areas" and "Journal").
 ghost use mathlib.Core.Path.{_≡_};
 ghost use Prim.Native.Nat.{_+_, _*_, _<_, _≤_, _^_};
-ghost use Rattle.kinds.specs.Kinds.{pointsOf, columnsOf, kindOf, heldBy, holds, placeOf};
+ghost use Rattle.kinds.specs.Kinds.{pointsOf, columnsOf, kindOf, heldIn, holds, placeOf};
 
 // A kind of numbered thing: its journal tag, first number, bytes for each, how many are held, how many an entry may name.
 pub struct Kind {
@@ -17,16 +17,22 @@ pub struct Held {
     pub points: usize,
 }
 
-impl Held {
-    // What a board holds whose points area has so many bytes.
-    pub fn by(points: usize) -> Held
-        ensures { λ r. ⌜ r ≡ heldBy points ⌝ }
-    {
-        Held {
-            points: points / 40,
-        }
-    }
+// The lengths of the areas that things are held in: all that the tests ask of them.
+pub struct Lengths {
+    pub points: usize,
+    pub columns: usize,
+}
 
+// What a board with areas of these lengths holds.
+pub fn held_in(lengths: Lengths) -> Held
+    ensures { λ r. ⌜ r ≡ heldIn lengths ⌝ }
+{
+    Held {
+        points: lengths.points / 40,
+    }
+}
+
+impl Held {
     // Points 1 to N, a slot of 40 bytes each.
     fn points(self) -> Kind
         ensures { λ r. ⌜ r ≡ pointsOf self ⌝ }

@@ -6,6 +6,7 @@ use mathlib.Core.List.{List}
 use lib.ListN.{length}
 use borrow.Author.Tests.{eq-eqb, ne-eqb, le-ltb}
 use Rattle.frames.specs.Frame.{contentIn}
+use Rattle.kinds.specs.Kinds.{heldIn}
 use Rattle.axes.specs.declared.AxisRecord.{AxisRecord}
 use Rattle.axes.specs.declared.Axes.{Axes}
 use Rattle.axes.specs.Records.{noAxes}
@@ -14,7 +15,7 @@ use Rattle.messages.specs.Rows.{firstOf}
 use Rattle.messages.specs.Table.{messageOf}
 use Rattle.messages.specs.Asked.{askedRows}
 use Rattle.calls.specs.declared.Settings.{Settings}
-use Rattle.calls.specs.Calls.{Areas, lengthsOf, heldIn, callOf}
+use Rattle.calls.specs.Calls.{Areas, lengthsOf, callOf}
 use Rattle.refusals.specs.Refusals.{axesFit, areaRows, refusalOf}
 use Rattle.refusals.proofs.Rows.{areaNumber, frameNumber, area-rows, areas-pass, past-areas, refusal-is}
 use Rattle.lent.specs.Laws.{SameEight, OtherCount}

@@ -10,6 +10,7 @@ use borrow.Author.Tests.{ne-eqb, eqb-true, eqb-false}
 use Rattle.digits.proofs.Bools.{either}
 use Rattle.frames.specs.Frame.{contentIn}
 use Rattle.kinds.specs.declared.Held.{Held}
+use Rattle.kinds.specs.Kinds.{heldIn}
 use Rattle.messages.specs.declared.table.Message.{Message}
 use Rattle.messages.specs.declared.Asked.{Asked}
 use Rattle.messages.specs.declared.Asked.the-variants.{Refused, Order}
@@ -17,7 +18,7 @@ use Rattle.messages.specs.Rows.{firstOf}
 use Rattle.messages.specs.Table.{messageOf}
 use Rattle.messages.specs.Asked.{askedRows, askedOf, judged, numberGiven}
 use Rattle.messages.proofs.Judged.{number-judged, refused-some}
-use Rattle.calls.specs.Calls.{Areas, Call, Outcome, lengthsOf, heldIn, steppedBack}
+use Rattle.calls.specs.Calls.{Areas, Call, Outcome, lengthsOf, steppedBack}
 use Rattle.refusals.specs.Refusals.{silent, silentOf, refusalOf, backRefusalOf}
 use Rattle.refusals.proofs.Rows.{numberOf, CallPassed, silent-is, refusal-is, call-passed, past-silent, silent-given}
 use Rattle.link.specs.Answer.{asked, textOf, areasAfter, unanswered, answerOf, backOf}

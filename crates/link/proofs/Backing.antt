@@ -9,7 +9,7 @@ use lib.ListN.{length, take, drop, replicate}
 use borrow.Author.Tests.{eqb-true, eqb-false}
 use Rattle.kinds.specs.declared.Kind.{Kind}
 use Rattle.kinds.specs.declared.Held.{Held}
-use Rattle.kinds.specs.Kinds.{Sound, pointsTag, columnsTag, pointsOf, columnsOf, kindOf, sizeOf}
+use Rattle.kinds.specs.Kinds.{Sound, pointsTag, columnsTag, pointsOf, columnsOf, kindOf, heldIn, sizeOf}
 use Rattle.kinds.proofs.Known.{kind-points, kind-columns, tag-of, sized}
 use Rattle.journal.specs.Journal.{Entry, encodes, entriesIn, whole, areaOf, lastEntry, others, entryFits, puts, entryFor}
 use Rattle.journal.specs.Laws.{Holds, Good, Stands}
@@ -18,7 +18,7 @@ use Rattle.journal.proofs.Codec.{Bytes}
 use Rattle.journal.proofs.Back.{holds-back}
 use Rattle.messages.specs.Rows.{firstOf}
 use Rattle.calls.specs.declared.Kept.{Kept}
-use Rattle.calls.specs.Calls.{Areas, Outcome, areasOf, lengthsOf, heldIn, steppedBack}
+use Rattle.calls.specs.Calls.{Areas, Outcome, areasOf, lengthsOf, steppedBack}
 use Rattle.refusals.specs.Refusals.{backRows, backRefusalOf}
 use Rattle.refusals.proofs.Rows.{AreasPass, areas-pass, back-rows}
 use Rattle.refusals.proofs.Tested.{Points, Journal, points-fit, journal-fits, sound}
@@ -52,7 +52,7 @@ can-step-back a e =
       columns = eqb-true _ _ (p .0 .columns);
       journal = journal-fits (heldIn (lengthsOf a)) (a .journal) (a .kept .used) (p .0 .journal-fits);
       used = some-used (a .kept .used) (p .1);
-      sound-held = sound (length (a .points)) (p .0 .points);
+      sound-held = sound (lengthsOf a) (p .0 .points);
     }
 
 -- a refused one

@@ -15,7 +15,7 @@ use Rattle.digits.proofs.Bools.{was-not}
 use Rattle.frames.specs.Frame.{contentIn}
 use Rattle.kinds.specs.declared.Kind.{Kind}
 use Rattle.kinds.specs.declared.Held.{Held}
-use Rattle.kinds.specs.Kinds.{Sound, pointsTag, columnsTag, pointsOf, columnsOf, kindOf, holds, sizeOf}
+use Rattle.kinds.specs.Kinds.{Sound, pointsTag, columnsTag, pointsOf, columnsOf, kindOf, heldIn, holds, sizeOf}
 use Rattle.areas.specs.Pairs.{bytesIn}
 use Rattle.kinds.proofs.Known.{kind-points, kind-columns, within}
 use Rattle.areas.proofs.Paired.{length-bytesIn}
@@ -30,7 +30,7 @@ use Rattle.messages.specs.Table.{messageOf, fieldsOf, startIn, countIn, restIn,
 use Rattle.messages.specs.Asked.{askedOf}
 use Rattle.messages.proofs.Judged.{Right, Told, told, written}
 use Rattle.messages.proofs.Shapes.{Shape, Shaped, shaped}
-use Rattle.calls.specs.Calls.{Call, lengthsOf, heldIn}
+use Rattle.calls.specs.Calls.{Call, lengthsOf}
 use Rattle.refusals.specs.Refusals.{silentOf}
 use Rattle.refusals.proofs.Rows.{CallPassed, call-passed}
 use Rattle.refusals.proofs.Tested.{Points, Journal, points-fit, journal-fits, shaped-long, sound}
@@ -62,7 +62,7 @@ fine c e =
       columns = eqb-true _ _ (p .areas .columns);
       journal = journal-fits (held c) (c .areas .journal) (c .areas .kept .used) (p .areas .journal-fits);
       frame-long = shaped-long (c .sent .frame) (p .shape);
-      sound-held = sound (length (c .areas .points)) (p .areas .points);
+      sound-held = sound (lengthsOf (c .areas)) (p .areas .points);
     }
 
 -- a content is ten bytes shorter than its frame

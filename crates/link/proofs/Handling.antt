@@ -14,7 +14,7 @@ use Rattle.digits.proofs.Laid.{part-rest}
 use Rattle.frames.specs.Frame.{contentIn}
 use Rattle.kinds.specs.declared.Kind.{Kind}
 use Rattle.kinds.specs.declared.Held.{Held}
-use Rattle.kinds.specs.Kinds.{pointsTag, columnsTag, pointsOf, columnsOf, kindOf, heldBy, holds, placeOf, sizeOf}
+use Rattle.kinds.specs.Kinds.{pointsTag, columnsTag, pointsOf, columnsOf, kindOf, holds, placeOf, sizeOf}
 use Rattle.areas.specs.Pairs.{bytesIn}
 use Rattle.kinds.proofs.Known.{kind-points, kind-columns, within, room}
 use Rattle.points.specs.Point.{fillsOf, slotsOf}

@@ -8,7 +8,7 @@ use lib.ListN.{drop, replicate}
 use Rattle.digits.specs.Digits.{numberOf}
 use Rattle.frames.specs.Frame.{contentIn, replyOf, errorOf, normal}
 use Rattle.kinds.specs.declared.Held.{Held}
-use Rattle.kinds.specs.Kinds.{pointsOf, kindOf, placeOf}
+use Rattle.kinds.specs.Kinds.{pointsOf, kindOf, heldIn, placeOf}
 use Rattle.areas.specs.Pairs.{bytesIn}
 use Rattle.points.specs.Point.{slotsOf}
 use Rattle.messages.specs.declared.table.Action.{Action}
@@ -19,7 +19,7 @@ use Rattle.messages.specs.declared.Asked.the-variants.{Refused, Order}
 use Rattle.messages.specs.Table.{restIn}
 use Rattle.messages.specs.Asked.{askedOf, numberGiven}
 use Rattle.queries.specs.Replies.{headOf, sameText, countText, listText, runText, axesText}
-use Rattle.calls.specs.Calls.{Areas, Call, Outcome, lengthsOf, heldIn, areaIn, written, steppedBack}
+use Rattle.calls.specs.Calls.{Areas, Call, Outcome, lengthsOf, areaIn, written, steppedBack}
 use Rattle.refusals.specs.Refusals.{silentOf, backRefusalOf}
 
 -- what the board of a call holds, and what its frame asks

@@ -1,15 +1,15 @@
 // The link: every frame answered, and the step back (document 01 whole).
 use axes::Axes;
 use calls::Kept;
-use calls::Lengths;
 use calls::Settings;
-use calls::held_in;
 use frames::replies::error_reply;
 use journal::find_last;
 use journal::remove;
 use journal::restore;
 use kinds::Held;
 use kinds::Kind;
+use kinds::Lengths;
+use kinds::held_in;
 use messages::Asked;
 use messages::content;
 use messages::judge;

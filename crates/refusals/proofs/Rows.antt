@@ -15,8 +15,9 @@ use Rattle.messages.specs.Asked.{askedRows}
 use Rattle.axes.specs.declared.Axes.{Axes}
 use Rattle.calls.specs.declared.Settings.{Settings}
 use Rattle.calls.specs.declared.Kept.{Kept}
-use Rattle.calls.specs.declared.Lengths.{Lengths}
-use Rattle.calls.specs.Calls.{Call, lengthsOf, heldIn}
+use Rattle.kinds.specs.declared.Lengths.{Lengths}
+use Rattle.kinds.specs.Kinds.{heldIn}
+use Rattle.calls.specs.Calls.{Call, lengthsOf}
 use Rattle.refusals.specs.Refusals.{pointsFit, journalFits, axesFit, areaRows, frameRows, silentRows, silentOf, refusalOf, backRows}
 
 -- three rows, and what comes behind them

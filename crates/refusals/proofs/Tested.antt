@@ -12,7 +12,8 @@ use borrow.Author.Tests.{leb-true, eqb-true, le-leb, lt-leb}
 use Rattle.digits.proofs.Inverse.{and-left, and-right}
 use Rattle.frames.specs.Frame.{command, CR, LF, shaped}
 use Rattle.kinds.specs.declared.Held.{Held}
-use Rattle.kinds.specs.Kinds.{Sound, heldBy}
+use Rattle.kinds.specs.declared.Lengths.{Lengths}
+use Rattle.kinds.specs.Kinds.{Sound, heldIn}
 use Rattle.journal.specs.Journal.{whole}
 use Rattle.axes.specs.declared.AxisRecord.{AxisRecord}
 use Rattle.axes.specs.Records.{zeroRecord}
@@ -86,8 +87,8 @@ unfolding recordsFit
 records-done rs i h = rw (drop-of-length-le rs h)
 
 -- a board whose points fit holds no more than it can
-pub sound : (points : ℕ) → pointsFit points ≡ true → Sound (heldBy points)
-sound points e = record { points = points-fit points e .most }
+pub sound : (l : Lengths) → pointsFit (l .points) ≡ true → Sound (heldIn l)
+sound l e = record { points = points-fit (l .points) e .most }
 
 -- what is held, as it was worked out
 pub same-sound : {h h′ : Held} → h ≡ h′ → Sound h′ → Sound h

@@ -6,6 +6,7 @@ use lib.Dec.{ltb, leb, eqb}
 use lib.ListN.{length, take}
 use Rattle.frames.specs.Frame.{contentIn, shaped, sumPasses, stationPasses}
 use Rattle.kinds.specs.declared.Held.{Held}
+use Rattle.kinds.specs.Kinds.{heldIn}
 use Rattle.journal.specs.Journal.{whole}
 use Rattle.axes.specs.declared.AxisRecord.{AxisRecord}
 use Rattle.axes.specs.declared.Axes.{Axes}
@@ -14,8 +15,8 @@ use Rattle.messages.specs.Table.{messageOf}
 use Rattle.messages.specs.Asked.{askedRows}
 use Rattle.calls.specs.declared.Settings.{Settings}
 use Rattle.calls.specs.declared.Kept.{Kept}
-use Rattle.calls.specs.declared.Lengths.{Lengths}
-use Rattle.calls.specs.Calls.{Areas, Call, lengthsOf, heldIn}
+use Rattle.kinds.specs.declared.Lengths.{Lengths}
+use Rattle.calls.specs.Calls.{Areas, Call, lengthsOf}
 
 -- 2: the points area is "a multiple of 40 from 40 to 60,000"
 unfoldable pub pointsFit : ℕ → Bool

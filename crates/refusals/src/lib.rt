@@ -2,14 +2,14 @@
 use axes::Axes;
 use axes::AxisRecord;
 use calls::Kept;
-use calls::Lengths;
 use calls::Settings;
-use calls::held_in;
 use frames::checks::is_ours;
 use frames::checks::is_shaped;
 use frames::checks::passes_sum;
 use journal::is_whole;
 use kinds::Held;
+use kinds::Lengths;
+use kinds::held_in;
 use points::point::Point;
 ghost use mathlib.Core.Path.{_≡_};
 ghost use Rattle.kinds.specs.Kinds.{Sound};

@@ -20,7 +20,7 @@ held-in-requires : tie.Need-held-in-requires
 held-in-requires c κs = search needs
 
 fits-journal-requires : tie.Need-fits-journal-requires
-fits-journal-requires c κs = same-sound (c .held-in .ensures) (sound _ (was-true (c .before .before .before .before .fits-points .ensures) (c .before .before .before .if1 .left)))
+fits-journal-requires c κs = same-sound (c .held-in .ensures) (sound (c .before .before .before .before .before .before .args .lengths) (was-true (c .before .before .before .before .fits-points .ensures) (c .before .before .before .if1 .left)))
 
 returns-3 : tie.Need-returns-3
 returns-3 c = let a = c .before .before .before .before .before .before .before .before .args in area-4 (a .lengths) (a .journal .now) (a .kept) (was-true (c .before .before .before .before .before .before .fits-points .ensures) (c .before .before .before .before .before .if1 .left)) (c .before .before .before .if2 .left) (was-false (same-journal _ _ (c .before .fits-journal .ensures) (c .before .before .held-in .ensures)) (c .if3 .taken))
