@@ -9,7 +9,8 @@ use Rattle.points.specs.Axes.{axesFrom, axesOf}
 use Rattle.points.specs.Point.{positionsOf, pointOf, lengthOf, fillsOf, positionBytes, slotOf, slotsOf, positionsIn, pointIn, effectiveIn, positionDigits, pointDigits}
 use Rattle.messages.specs.Table.{messageNumbered, messageOf, patternFits, patternsFit}
 use Rattle.messages.specs.Asked.{askedRows, judged, askedOf}
-use Rattle.queries.specs.Replies.{listed, recordsDigits}
+use Rattle.listing.specs.Listing.{listed}
+use Rattle.queries.specs.Replies.{recordsDigits}
 use Rattle.refusals.specs.Refusals.{pointsFit, journalFits, recordsFit, axesFit, areaRows, frameRows, silentRows, silentOf, refusalOf, backRows, backRefusalOf}
 use Rattle.link.specs.Answer.{answerOf, backOf}
 

@@ -24,7 +24,7 @@ use Rattle.messages.specs.declared.table.Message.{Message}
 use Rattle.messages.specs.declared.table.Named.the-variants.{Known}
 use Rattle.messages.specs.Table.{row, startIn, countIn, patternsFit}
 use Rattle.messages.proofs.Judged.{Right}
-use Rattle.queries.specs.Replies.{listed, joined}
+use Rattle.listing.specs.Listing.{listed, joined}
 use Rattle.kinds.specs.declared.Lengths.{Lengths}
 use Rattle.calls.specs.Calls.{Call}
 use Rattle.refusals.specs.Refusals.{silentOf}

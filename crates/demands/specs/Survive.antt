@@ -15,7 +15,7 @@ use Rattle.points.specs.Point.{lengthOf, effectiveIn}
 use Rattle.messages.specs.declared.table.Message.{Message}
 use Rattle.messages.specs.declared.table.Named.the-variants.{Known}
 use Rattle.messages.specs.Table.{messageOf, startIn, countIn}
-use Rattle.queries.specs.Replies.{joined}
+use Rattle.listing.specs.Listing.{joined}
 use Rattle.calls.specs.Calls.{Areas, Call, Outcome, callOf, lengthsOf, areaIn}
 use Rattle.link.specs.Answer.{held, rest, answerOf}
 use Rattle.demands.specs.Cases.{bench, blank}

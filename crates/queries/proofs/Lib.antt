@@ -1,3 +1,2 @@
 pub mod Recorded
 pub mod Texts
-pub mod Listings

@@ -18,12 +18,13 @@ use Rattle.areas.proofs.Paired.{length-digitsIn}
 use Rattle.axes.specs.declared.AxisRecord.{AxisRecord}
 use Rattle.points.specs.Axes.{axesOf}
 use Rattle.points.specs.Point.{effectiveIn}
+use Rattle.listing.specs.Listing.{listed, joined}
 use Rattle.frames.specs.Frame.{replyOf, normal}
 use Rattle.frames.proofs.Closing.{length-reply, closed-over}
 use Rattle.messages.specs.declared.table.Message.{Message}
 use Rattle.messages.specs.Table.{Narrow}
 use Rattle.queries.specs.Laws.{Replied}
-use Rattle.queries.specs.Replies.{idOf, headOf, countText, listed, joined, listText, runText, recordsDigits, axesText}
+use Rattle.queries.specs.Replies.{idOf, headOf, countText, listText, runText, recordsDigits, axesText}
 use Rattle.queries.proofs.Recorded.{length-records}
 
 -- a reply closed over a text that was laid

@@ -1,9 +1,8 @@
 -- Document 01, "Each message": what a normal reply says after its station; source document 000, sections 4-3-2, 4-3-4, 4-3-5, 4-3-11 and 4-3-12.
-use Prim.Native.Nat.{ℕ, zero, suc, _-_}
+use Prim.Native.Nat.{ℕ}
 use mathlib.Core.Bool.{cond}
 use mathlib.Core.List.{List, [], _∷_, _++_}
-use lib.Dec.{leb, eqb}
-use lib.ListN.{length, drop, getD}
+use lib.ListN.{length, getD}
 use mir.Syntax.{w32}
 use mir.Val.{ofZ}
 use Rattle.digits.specs.Digits.{digitsOf}
@@ -13,7 +12,8 @@ use Rattle.areas.specs.Pairs.{digitsIn}
 use Rattle.axes.specs.declared.AxisRecord.{AxisRecord}
 use Rattle.axes.specs.Records.{zeroRecord}
 use Rattle.points.specs.Axes.{axesOf}
-use Rattle.points.specs.Point.{pointIn, pointDigits, effectiveIn}
+use Rattle.points.specs.Point.{effectiveIn}
+use Rattle.listing.specs.Listing.{listed, joined}
 use Rattle.messages.specs.declared.table.Message.{Message}
 
 -- the message ID, as it was read
@@ -32,23 +32,6 @@ sameText m content = idOf m ++ content
 -- "208H counts slots with a non-zero pattern": its number in three digits (4-3-4)
 abbrev pub countText : Message → ℕ → List ℕ → List ℕ
 countText m n points = idOf m ++ digitsOf 3 (effectiveIn n points)
-
--- a listed point: its number in three digits, then its own digits (4-3-5)
-abbrev pub listing : ℕ → List ℕ → List ℕ
-listing number slot = digitsOf 3 number ++ pointDigits (pointIn slot)
-
--- "209H lists, rising, the effective points among start to start+count-1, as many leading ones as keep the reply" within so many digits
-unfoldable pub listed : ℕ → ℕ → ℕ → List ℕ → List (List ℕ)
-listed room zero number slots = []
-listed room (suc count) number slots =
-    cond (eqb (getD slots 0 0) 0) (listed room count (suc number) (drop 40 slots))
-    (cond (leb (length (listing number slots)) room)
-    (listing number slots ∷ listed (room - length (listing number slots)) count (suc number) (drop 40 slots))
-    [])
-
-abbrev pub joined : List (List ℕ) → List ℕ
-joined [] = []
-joined (s ∷ ss) = s ++ joined ss
 
 -- "within 1,024 bytes": thirteen of them are header, station, ID, count, SC, CR and LF; "and its count is the number listed"
 abbrev pub listText : Message → ℕ → ℕ → List ℕ → List ℕ

@@ -5,12 +5,10 @@ use axes::AxisRecord;
 use digits::put_number;
 use frames::replies::close_reply;
 use kinds::Kind;
+use listing::put_listings;
 use messages::table::Message;
 use points::patterns::ones;
-use points::point::Point;
 use slots::count_effective;
-use slots::listing::put_point_digits;
-use slots::point_at;
 ghost use mathlib.Core.Path.{_≡_};
 ghost use mathlib.Core.List.{_++_};
 ghost use Prim.Native.Nat.{_+_, _*_, _≤_, _<_};
@@ -19,9 +17,8 @@ ghost use Rattle.digits.specs.Digits.{digitsOf};
 ghost use Rattle.digits.specs.Laid.{laid};
 ghost use Rattle.kinds.specs.Kinds.{sizeOf, placeOf};
 ghost use Rattle.points.specs.Axes.{axesOf};
-ghost use Rattle.points.specs.Point.{pointDigits};
 ghost use Rattle.messages.specs.Table.{Narrow};
-ghost use Rattle.queries.specs.Replies.{headOf, sameText, countText, listed, joined, listText, runText, recordDigits, recordsDigits, axesText};
+ghost use Rattle.queries.specs.Replies.{headOf, sameText, countText, listText, runText, recordDigits, recordsDigits, axesText};
 ghost use Rattle.queries.specs.Laws.{Replied};
 
 // Program number 00, start and count, each as long as the message has it; where they end.
@@ -146,52 +143,6 @@ pub fn reply_axes(
     put_number(reply, 6, 2, pattern as u64);
     put_records(reply, 8, pattern, records);
     close_reply(reply, station, 5 + 16 * ones(pattern))
-}
-
-// A listed point: its number in three digits, then its own.
-fn put_listing(reply: &mut [u8], at: usize, number: usize, p: Point)
-    requires { ⌜ at + (17 + 8 * length (axesOf (p .pattern))) ≤ length (now reply) ⌝ }
-    ensures { λ _. ⌜ now (reply .exit) ≡ laid (now (reply .entry)) at (digitsOf 3 number ++ pointDigits p) ⌝ }
-{
-    put_number(reply, at, 3, number as u64);
-    put_point_digits(reply, at + 3, p);
-}
-
-// The digits that a list has room for: 1,024 bytes without header, station, ID, count, SC, CR and LF.
-const ROOM: usize = 1011;
-
-// So many points listed, in so many digits.
-struct Listed {
-    many: usize,
-    digits: usize,
-}
-
-// The effective points among so many slots, the first one's number being start, up to the first that has no room.
-fn put_listings(reply: &mut [u8], slots: &[u8], start: usize, count: usize) -> Listed
-    requires { ⌜ (1024 ≤ length (now reply)) × (start + count ≤ 1501) × (40 * count ≤ length (now slots)) ⌝ }
-    ensures { λ r. ⌜ (r .many ≡ length (listed 1011 count start (now (slots .entry))))
-        × (r .digits ≡ length (joined (listed 1011 count start (now (slots .entry)))))
-        × (r .digits ≤ 1011) ⌝ }
-    ensures { λ _. ⌜ now (reply .exit) ≡ laid (now (reply .entry)) 9 (joined (listed 1011 count start (now (slots .entry)))) ⌝ }
-{
-    let mut many = 0;
-    let mut digits = 0;
-    let mut i = 0;
-    while i < count {
-        let at = i * Point::SLOT;
-        let pattern = slots[at];
-        if pattern != 0 {
-            let size = 17 + 8 * ones(pattern);
-            if size > ROOM - digits {
-                break;
-            }
-            put_listing(reply, 9 + digits, start + i, point_at(slots, at));
-            many += 1;
-            digits += size;
-        }
-        i += 1;
-    }
-    Listed { many, digits }
 }
 
 // 209H: the effective points among so many slots from a number on, as many leading ones as keep the reply within 1,024 bytes.

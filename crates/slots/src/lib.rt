@@ -1,4 +1,4 @@
-// Points in their area, a slot of 40 bytes each, and listed as digits (document 01, "The areas" and "Each message", 208H, 209H and 244H).
+// Points in their area, a slot of 40 bytes each (document 01, "The areas" and "Each message", 208H and 244H).
 use areas::bytes::four_at;
 use areas::bytes::put_four;
 use areas::bytes::put_two;
@@ -17,8 +17,6 @@ ghost use lib.ListN.{length, drop};
 ghost use Rattle.digits.specs.Digits.{allDigits};
 ghost use Rattle.digits.specs.Laid.{laid};
 ghost use Rattle.points.specs.Point.{fillsOf, positionBytes, slotOf, slotsOf, positionsIn, pointIn, effectiveIn};
-
-pub mod listing; // a point's digits
 
 // The pattern and a zero byte.
 fn put_pattern(area: &mut [u8], at: usize, pattern: u8)

@@ -3,8 +3,8 @@ use mathlib.Core.Path.{refl, _∙_}
 use native.Mathlib.Omega.{arith}
 use Rattle.digits.proofs.Laid.{laid-on}
 use borrow.Author.Needs.{needs}
-use Rattle.queries.proofs.put_listing.Statement.{statement}
-use Rattle.queries.proofs.put_listing.Tie as tie
+use Rattle.listing.proofs.put_listing.Statement.{statement}
+use Rattle.listing.proofs.put_listing.Tie as tie
 
 put-number-requires : tie.Need-put-number-requires
 put-number-requires c κs = search needs

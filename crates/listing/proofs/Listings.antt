@@ -15,7 +15,7 @@ use Rattle.points.specs.Axes.{axesOf}
 use Rattle.points.specs.Point.{pointIn, positionDigits, pointDigits}
 use Rattle.points.specs.declared.units.Position.{Position}
 use Rattle.points.specs.declared.point.Point.{Point}
-use Rattle.queries.specs.Replies.{listing, listed, joined}
+use Rattle.listing.specs.Listing.{listing, listed, joined}
 
 length-positions : (axes : List ℕ) (ps : List Position) → length (positionDigits axes ps) ≡ 8 * length axes
 unfolding positionDigits

@@ -4,8 +4,8 @@ use native.Mathlib.Omega.{arith}
 use Rattle.points.specs.Point.{pointDigits}
 use Rattle.points.proofs.Chained.{chain}
 use borrow.Author.Needs.{needs}
-use Rattle.slots.proofs.listing.put_point_digits.Statement.{statement}
-use Rattle.slots.proofs.listing.put_point_digits.Tie as tie
+use Rattle.listing.proofs.put_point_digits.Statement.{statement}
+use Rattle.listing.proofs.put_point_digits.Tie as tie
 
 cast-put-number : tie.Need-cast-put-number
 cast-put-number c = search needs

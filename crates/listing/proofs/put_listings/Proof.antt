@@ -5,10 +5,10 @@ use borrow.Author.Needs.{needs}
 use mathlib.Core.Logic.{⊎-elim}
 use Rattle.points.specs.Axes.{axesOf}
 use Rattle.points.proofs.Ones.{at-most}
-use Rattle.queries.specs.Replies.{listed}
-use Rattle.queries.proofs.Listings.{Left, leftAt, at-first, at-skip, at-full, at-end, moved, done, pattern-in, took}
-use Rattle.queries.proofs.put_listings.Statement.{statement}
-use Rattle.queries.proofs.put_listings.Tie as tie
+use Rattle.listing.specs.Listing.{listed}
+use Rattle.listing.proofs.Listings.{Left, leftAt, at-first, at-skip, at-full, at-end, moved, done, pattern-in, took}
+use Rattle.listing.proofs.put_listings.Statement.{statement}
+use Rattle.listing.proofs.put_listings.Tie as tie
 
 abbrev Inv-loop : tie.InvT-loop
 Inv-loop reply₀ slots start count many₀ digits₀ i₀ reply many digits i = (many ≤ i) × Left (listed 1011 count start slots) (leftAt start count i digits slots) reply₀ reply many digits

@@ -8,8 +8,8 @@ use Rattle.points.specs.Axes.{axesOf}
 use Rattle.points.specs.Point.{positionDigits}
 use Rattle.points.proofs.Ones.{Turn, turn-of}
 use Rattle.points.proofs.Slotted.{list-next, list-done}
-use Rattle.slots.proofs.listing.put_positions.Statement.{statement}
-use Rattle.slots.proofs.listing.put_positions.Tie as tie
+use Rattle.listing.proofs.put_positions.Statement.{statement}
+use Rattle.listing.proofs.put_positions.Tie as tie
 
 abbrev Inv-loop : tie.InvT-loop
 Inv-loop reply₀ at pattern positions rest₀ to₀ reply rest to = (rest < 256) × (length positions ≡ 8) × (to + 8 * length (axesOf rest) ≤ length reply) × (laid reply to (positionDigits (axesOf rest) positions) ≡ laid reply₀ at (positionDigits (axesOf pattern) positions)) × (length reply ≡ length reply₀)
