@@ -8,6 +8,7 @@ use lib.ListN.{length, getD}
 use Rattle.kinds.specs.Kinds.{columnsTag}
 use Rattle.journal.specs.Journal.{added, lastEntry}
 use Rattle.calls.specs.Calls.{Areas}
+use Rattle.demands.specs.Cases.{holding}
 use Rattle.demands.specs.History.{Conduct, Event, frame, stepBack, after, acceptedWrite, alone, entries, Holds, EveryHistory}
 use Rattle.demands.specs.Broken.{lotCode, pointOne, clearOne, unknown, smallest, small, Worked, entersNew, clears, refusalWrites, forgets, takesNothing, Broken}
 use Rattle.demands.proofs.Computing.{a-call}
@@ -31,8 +32,8 @@ abbrev due : Conduct → List Event → ℕ
 due board events = getD (alone board smallest (small board events .standing-writes) .columns) 0 0
 
 -- what a board that keeps the demand has come to
-kept-so : (board : Conduct) → EveryHistory board → (events : List Event) → Holds board (record { points = 1 }) 340 (small board events)
-kept-so board h events = h (record { points = 1 }) 340 (omega arith) (omega arith) (omega arith) (omega arith) events
+kept-so : (board : Conduct) → EveryHistory board → (events : List Event) → Holds board (holding 1) 340 (small board events)
+kept-so board h events = h (holding 1) 340 (record { some-points = omega arith; points = omega arith }) (omega arith) (omega arith) events
 
 -- a history whose first column is another
 fails : (board : Conduct) (events : List Event) (x y : ℕ) → there board events ≡ x → due board events ≡ y → (x ≡ y → ⊥) → EveryHistory board → ⊥

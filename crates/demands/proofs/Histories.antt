@@ -403,4 +403,4 @@ module _ {held : Held} {size : ℕ} (b : Bounds held size) where
   from-fresh events = holds-always _ (every _ first events)
 
 pub every-history : EveryHistory ours
-every-history held size s m l g events = from-fresh (record { some = s; most = m; least = l; largest = g }) events
+every-history held size s l g events = from-fresh (record { sound = s; least = l; largest = g }) events

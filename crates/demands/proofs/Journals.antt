@@ -13,7 +13,7 @@ use Rattle.journal.proofs.Codec.{Bytes, bytes-take, length-encode}
 use Rattle.journal.proofs.Adding.{encodes-snoc}
 use Rattle.journal.proofs.Again.{good-added, again}
 use Rattle.journal.proofs.Promised.{encoding, newest}
-use Rattle.refusals.specs.Refusals.{journalFits}
+use Rattle.refusals.specs.Refusals.{leastJournal, journalFits}
 use Rattle.refusals.proofs.Tested.{Journal}
 
 -- with an entry that fits the area, the entries fit it
@@ -43,7 +43,7 @@ journal-again held j used e bs f g h =
     let gs : AllGood held es = good-added held (length j) old e (encoding held (take used j) (bytes-take used j bs) (f .entries) .0) g in
     let a = again held (length j) es (areaOf (length j) es) (length (encodes es)) (record { bytes = refl; used = refl }) gs in
     rw (
-      le-leb (40 * held .points + 300) (length (areaOf (length j) es)) (omega (arith, f .least)),
+      le-leb (leastJournal held) (length (areaOf (length j) es)) (omega (arith, f .least)),
       le-leb (length (areaOf (length j) es)) 65536 (omega (arith, f .most)),
       le-leb (length (encodes es)) (length (areaOf (length j) es)) (a .within),
       a .good,

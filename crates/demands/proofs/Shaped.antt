@@ -19,7 +19,7 @@ use Rattle.messages.specs.Rows.{firstOf}
 use Rattle.messages.specs.Table.{messageOf}
 use Rattle.messages.specs.Asked.{askedRows, askedOf}
 use Rattle.calls.specs.Calls.{Areas, Sent, lengthsOf, areaIn, entriesOf}
-use Rattle.refusals.specs.Refusals.{pointsFit, journalFits, axesFit, refusalOf, backRefusalOf}
+use Rattle.refusals.specs.Refusals.{pointsFit, leastJournal, journalFits, axesFit, refusalOf, backRefusalOf}
 use Rattle.refusals.proofs.Rows.{AreasPass, past-areas, back-rows, frameNumber, refusal-is}
 use Rattle.demands.specs.Refused.{asksWrite}
 use Rattle.demands.specs.History.{ours, callOn, acceptedWrite, entries}
@@ -28,9 +28,8 @@ use Rattle.demands.proofs.Journals.{area-long}
 
 -- the lengths that document 01 asks
 pub record Bounds (held : Held) (size : ℕ) : Type 0 where
-  pub some : 1 ≤ held .points
-  pub most : held .points ≤ 1500
-  pub least : 40 * held .points + 300 ≤ size
+  pub sound : Sound held
+  pub least : leastJournal held ≤ size
   pub largest : size ≤ 65536
 
 pub record Shape (held : Held) (size : ℕ) (a : Areas) (es : List Entry) : Type 0 where
@@ -63,9 +62,6 @@ abbrev pub takes : Held → Sent → Bool
 takes held s = eqb (numberOn held s) 0 && asksWrite (askedOf held (s .settings .fitted) (s .frame))
 
 module _ {held : Held} {size : ℕ} (b : Bounds held size) where
-  pub sound : Sound held
-  sound = record { points = b .most }
-
   module _ {a : Areas} {es : List Entry} (h : Shape held size a es) where
     points-long : length (a .points) ≡ held .points * 40
     points-long = h .long pointsTag ∙ ap sizeOf (kind-points held)
@@ -93,8 +89,8 @@ module _ {held : Held} {size : ℕ} (b : Bounds held size) where
     unfolding pointsFit
     points-pass =
         let l = points-long in
-        let s = b .some in
-        let m = b .most in
+        let s = b .sound .some-points in
+        let m = b .sound .points in
         rw (eq-eqb (length (a .points) % 40) 0 (omega arith), le-leb 40 (length (a .points)) (omega arith), le-leb (length (a .points)) 60000 (omega arith))
 
     journal-pass : journalFits held (a .journal) (a .kept .used) ≡ true
@@ -102,7 +98,7 @@ module _ {held : Held} {size : ℕ} (b : Bounds held size) where
     journal-pass =
         let l = journal-long in
         rw (
-          le-leb (40 * held .points + 300) (length (a .journal)) (omega (arith, b .least, l)),
+          le-leb (leastJournal held) (length (a .journal)) (omega (arith, b .least, l)),
           le-leb (length (a .journal)) 65536 (omega (arith, b .largest, l)),
           le-leb _ _ (held-again .within),
           held-again .good,

@@ -30,7 +30,7 @@ use Rattle.link.proofs.Carrying.{Writable, writable, judged-so}
 use Rattle.demands.specs.Refused.{asksWrite}
 use Rattle.demands.specs.History.{ours, frame, callOn, after}
 use Rattle.demands.proofs.Journals.{added-fits}
-use Rattle.demands.proofs.Shaped.{Bounds, Shape, each-long, sound, held-is, journal-long, entries-held}
+use Rattle.demands.proofs.Shaped.{Bounds, Shape, each-long, held-is, journal-long, entries-held}
 
 -- what a frame that writes orders of a board that holds so much, and that it can be carried out
 pub record Writes (held : Held) (s : Sent) : Type 0 where
@@ -142,7 +142,7 @@ module _ {held : Held} {s : Sent} (w : Writes held s) (a : Areas) (l : (t : ℕ)
   old-good b =
       let r = w .able .run in
       subst (λ (t : ℕ). Good held (entryFor t (w .start) (oldBy w a .bytes))) (tag-of held (tag w))
-      (good held (kindOf held (tag w)) (w .start) (w .count) (oldBy w a .bytes) (sound b) (own-kind held (tag w)) (r .some) (r .named) (r .held-all) old-long)
+      (good held (kindOf held (tag w)) (w .start) (w .count) (oldBy w a .bytes) (b .sound) (own-kind held (tag w)) (r .some) (r .named) (r .held-all) old-long)
 
 -- the areas after a write are of the right lengths again
 pub shaped : {held : Held} {size : ℕ} {s : Sent} (w : Writes held s) (b : Bounds held size) {a : Areas} {es : List Entry} → Shape held size a es

@@ -1,6 +1,6 @@
 -- Demand 3: histories of frames and steps back, from fresh. "use the same ones throughout, hand each call the used length the last one handed back,
 -- and let nothing else write them".
-use Prim.Native.Nat.{ℕ, _+_, _*_, _≤_}
+use Prim.Native.Nat.{ℕ, _≤_}
 use mathlib.Core.Path.{_≡_}
 use mathlib.Core.Logic.{_↔_}
 use mathlib.Core.Bool.{Bool, true, false, cond, _&&_}
@@ -8,9 +8,10 @@ use mathlib.Core.List.{List, [], _∷_, _++_}
 use lib.Dec.{eqb}
 use lib.ListN.{length}
 use Rattle.kinds.specs.declared.Held.{Held}
-use Rattle.kinds.specs.Kinds.{heldIn}
+use Rattle.kinds.specs.Kinds.{heldIn, Sound}
 use Rattle.journal.specs.Journal.{Entry, encodes, added, areaOf, lastEntry, others}
 use Rattle.calls.specs.Calls.{Areas, Sent, Call, Outcome, fresh, lengthsOf, areaIn, entriesOf}
+use Rattle.refusals.specs.Refusals.{leastJournal}
 use Rattle.link.specs.Answer.{asked, answerOf, backOf}
 use Rattle.demands.specs.Refused.{asksWrite}
 
@@ -102,5 +103,5 @@ module _ (board : Conduct) where
   -- "with areas of the lengths document 01 asks", after any events
   abbrev pub EveryHistory : Type 0
   EveryHistory =
-      (held : Held) (size : ℕ) → 1 ≤ held .points → held .points ≤ 1500 → 40 * held .points + 300 ≤ size → size ≤ 65536
+      (held : Held) (size : ℕ) → Sound held → leastJournal held ≤ size → size ≤ 65536
       → (events : List Event) → Holds held size (past (record { areas = fresh held size; standing-writes = [] }) events)

@@ -34,8 +34,9 @@ kindOf h tag =
 abbrev pub heldIn : Lengths → Held
 heldIn l = record { points = l .points / 40 }
 
--- what the tests of the areas assure of what is held: "N from 1 to 1,500"
+-- what document 01 asks of what is held, and the tests of the areas assure: "N from 1 to 1,500"
 pub record Sound (h : Held) : Type 0 where
+  pub some-points : 1 ≤ h .points
   pub points : h .points ≤ 1500
 
 -- each number "from start to start+count-1" is held (refusal 106)

@@ -17,7 +17,7 @@ use Rattle.kinds.specs.Kinds.{Sound, heldIn}
 use Rattle.journal.specs.Journal.{whole}
 use Rattle.axes.specs.declared.AxisRecord.{AxisRecord}
 use Rattle.axes.specs.Records.{zeroRecord}
-use Rattle.refusals.specs.Refusals.{pointsFit, journalFits, recordsFit}
+use Rattle.refusals.specs.Refusals.{pointsFit, leastJournal, journalFits, recordsFit}
 
 -- a shaped frame has ten bytes at least
 pub shaped-long : (f : List ℕ) → shaped f ≡ true → 10 ≤ length f
@@ -47,7 +47,7 @@ points-fit n e =
     record { whole-slots = omega arith; some = omega arith; most = omega arith }
 
 pub record Journal (held : Held) (j : List ℕ) (used : ℕ) : Type 0 where
-  pub least : 40 * held .points + 300 ≤ length j
+  pub least : leastJournal held ≤ length j
   pub most : length j ≤ 65536
   pub within : used ≤ length j
   pub entries : whole held 0 (take used j) ≡ true
@@ -55,7 +55,7 @@ pub record Journal (held : Held) (j : List ℕ) (used : ℕ) : Type 0 where
 pub journal-fits : (held : Held) (j : List ℕ) (used : ℕ) → journalFits held j used ≡ true → Journal held j used
 unfolding journalFits
 journal-fits held j used e =
-    let a = leb (40 * held .points + 300) (length j) in
+    let a = leb (leastJournal held) (length j) in
     let b = leb (length j) 65536 in
     let c = leb used (length j) in
     let w = whole held 0 (take used j) in
@@ -88,7 +88,7 @@ records-done rs i h = rw (drop-of-length-le rs h)
 
 -- a board whose points fit holds no more than it can
 pub sound : (l : Lengths) → pointsFit (l .points) ≡ true → Sound (heldIn l)
-sound l e = record { points = points-fit (l .points) e .most }
+sound l e = let p = points-fit (l .points) e in record { some-points = p .some; points = p .most }
 
 -- what is held, as it was worked out
 pub same-sound : {h h′ : Held} → h ≡ h′ → Sound h′ → Sound h

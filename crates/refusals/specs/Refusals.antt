@@ -23,9 +23,12 @@ unfoldable pub pointsFit : ℕ → Bool
 pointsFit points = eqb (points % 40) 0 && (leb 40 points && leb points 60000)
 
 -- 4: the journal's length ("an area of 40·N+300 to 65,536 bytes"), the used length, and "whole well-formed entries"
+abbrev pub leastJournal : Held → ℕ
+leastJournal held = 40 * held .points + 300
+
 unfoldable pub journalFits : Held → List ℕ → ℕ → Bool
 journalFits held journal used =
-    leb (40 * held .points + 300) (length journal)
+    leb (leastJournal held) (length journal)
     && (leb (length journal) 65536 && (leb used (length journal) && whole held 0 (take used journal)))
 
 -- 5: a sensor is 0 to 15, an error code 0 to 4,095
