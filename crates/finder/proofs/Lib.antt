@@ -1,5 +1,6 @@
 pub mod Turns
 pub mod Blocks
+pub mod Parts
 pub mod Finding
 pub mod Promised
 pub mod Worked

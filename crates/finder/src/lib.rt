@@ -1,6 +1,6 @@
 // Finding a frame in the received bytes (document 01, "Finding a frame in the received bytes").
 ghost use mathlib.Core.Path.{_≡_};
-ghost use Prim.Native.Nat.{_+_, _≤_, _<_};
+ghost use Prim.Native.Nat.{_+_, _-_, _≤_, _<_};
 ghost use lib.ListN.{length, take, drop};
 ghost use lib.Dec.{ltb};
 ghost use Rattle.finder.specs.Find.{placeOf, pairFirst, pairOf, findIn, partOf};
@@ -126,13 +126,28 @@ pub fn find(received: &[u8]) -> Found
     Found::Wait { drop: start }
 }
 
+// The bytes from one place up to another, as many of them as there are.
+fn part(s: &[u8], start: usize, used: usize) -> &[u8]
+    ensures { λ r. ⌜ now r ≡ take (used - start) (drop start (now (s .entry))) ⌝ }
+{
+    if used <= start {
+        return &s[0..0];
+    }
+    if s.len() <= start {
+        return &s[0..0];
+    }
+    if s.len() < used {
+        return &s[start..];
+    }
+    &s[start..used]
+}
+
 // The frame itself, as the part of the received bytes where it was found; empty with no frame.
 pub fn frame_in(received: &[u8], found: Found) -> &[u8]
-    requires { ⌜ found ≡ findIn (now received) ⌝ }
     ensures { λ r. ⌜ now r ≡ partOf found (now (received .entry)) ⌝ }
 {
     match found {
-        Found::Frame { start, used } => &received[start..used],
+        Found::Frame { start, used } => part(received, start, used),
         Found::Nothing { drop: _ } => &received[0..0],
         Found::Wait { drop: _ } => &received[0..0],
         Found::TooLong { drop: _ } => &received[0..0],

@@ -30,7 +30,7 @@ slice-aggregate-frame-in : tie.Need-slice-aggregate-frame-in
 slice-aggregate-frame-in c = let s = c .before .before .before .before .before .before .before .before .before .before in sym (length-take-le (s .args .have) (s .args .line .now) (s .pre))
 
 frame-in-requires : tie.Need-frame-in-requires
-frame-in-requires c κs = sym (c .before .before .found .given .1) ∙ c .before .before .before .before .find .ensures
+frame-in-requires c κs = search needs
 
 serve-requires : tie.Need-serve-requires
 serve-requires c κs = search needs
