@@ -37,8 +37,8 @@ bench areas frame =
     callOf frame (eightAxes (replicate 8 zeroRecord)) (record { station = 0x99; fitted = 0xFF }) (replicate 1024 0) areas
 
 -- the same, with columns from a number on "holding" these bytes
-abbrev pub withColumns : ℕ → List ℕ → Areas
-withColumns start bytes = putIn (holding 500) (entryFor columnsTag start bytes) blank
+abbrev pub columnsHolding : ℕ → List ℕ → Areas
+columnsHolding start bytes = putIn (holding 500) (entryFor columnsTag start bytes) blank
 
 -- 209H, "effective point query" ("What the board answers"; 000, section 4-3-5): its row of the table
 abbrev pub listPoints : Message
@@ -55,9 +55,9 @@ pub record ProvedCases : Type 0 where
   pub case5 : answerOf (bench blank (text "!9924400100103001E001E00640000C350FFFFFFFFF3\r\n")) .text ≡ text "#9924400100151\r\n"
   pub case6 : answerOf (bench blank (text "!99299@@\r\n")) .text ≡ text "&991012A\r\n"
   -- (7) "`!992100012C0490` with columns 300 to 303 holding 30 30 34 37 replies `#992100012C043030343729`"
-  pub case7 : answerOf (bench (withColumns 300 (0x30 ∷ 0x30 ∷ 0x34 ∷ 0x37 ∷ [])) (text "!992100012C0490\r\n")) .text ≡ text "#992100012C043030343729\r\n"
+  pub case7 : answerOf (bench (columnsHolding 300 (0x30 ∷ 0x30 ∷ 0x34 ∷ 0x37 ∷ [])) (text "!992100012C0490\r\n")) .text ≡ text "#992100012C043030343729\r\n"
   -- (8) "start 3E7 count 01 is column 999, count 02 is 106"
-  pub case8 : (answerOf (bench (withColumns 999 (0x41 ∷ [])) (text "!99210003E701@@\r\n")) .text ≡ text "#99210003E70141FD\r\n")
+  pub case8 : (answerOf (bench (columnsHolding 999 (0x41 ∷ [])) (text "!99210003E701@@\r\n")) .text ≡ text "#99210003E70141FD\r\n")
       × (answerOf (bench blank (text "!99210003E702@@\r\n")) .number ≡ 106)
   -- (9) "number 010 is point 16"
   pub case9 : askedOf (holding 500) 0xFF (text "!99209010001@@\r\n") ≡ Order listPoints 16 1

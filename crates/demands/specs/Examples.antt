@@ -15,7 +15,7 @@ use Rattle.link.specs.Answer.{asked, answerOf, backOf}
 use Rattle.link.specs.Contract.{StepsBack}
 use Rattle.board.specs.Calls.{codeOf, startOf, lengthOf, Receives}
 use Rattle.demands.specs.Refused.{SameError, asksWrite}
-use Rattle.demands.specs.Cases.{blank, bench, withColumns}
+use Rattle.demands.specs.Cases.{blank, bench, columnsHolding}
 
 -- a 208H to the bench with its axis records as a lent run
 abbrev pub lentBench : List AxisRecord → Call
@@ -27,7 +27,7 @@ pub record Examples : Type 0 where
   pub without-reply : answerOf (bench blank (text "!9920900100555\r\n")) .number ≡ 7
   pub no-step-back : backOf blank .number ≡ 9
   -- `ErrorsAgree`: the same frame to two boards whose columns differ
-  pub same-error : SameError (bench blank (text "!99299@@\r\n")) (bench (withColumns 300 (replicate 700 0x41)) (text "!99299@@\r\n"))
+  pub same-error : SameError (bench blank (text "!99299@@\r\n")) (bench (columnsHolding 300 (replicate 700 0x41)) (text "!99299@@\r\n"))
   -- `QueryChangesNothing`: a 208H; `EveryReply` and `TestCallBack`: a 200H
   pub query : asksWrite (asked (bench blank (text "!99208@@\r\n"))) ≡ false
   pub test-call : messageIn (text "!99200001234567829\r\n") ≡ text "200"
