@@ -12,15 +12,15 @@ use Rattle.digits.specs.Laid.{laid}
 use Rattle.digits.proofs.Laid.{length-laid}
 use Rattle.frames.specs.Frame.{normal, replyOf}
 use Rattle.points.proofs.Parts.{all-take}
-use Rattle.messages.specs.declared.table.Follows.{Follows}
-use Rattle.messages.specs.declared.table.Follows.the-variants.{Nothing}
-use Rattle.messages.specs.declared.table.Action.{Action}
-use Rattle.messages.specs.declared.table.Message.{Message}
-use Rattle.messages.specs.declared.table.Named.{Named}
-use Rattle.messages.specs.declared.table.Named.the-variants.{Known}
+use Rattle.table.specs.declared.Follows.{Follows}
+use Rattle.table.specs.declared.Follows.the-variants.{Nothing}
+use Rattle.table.specs.declared.Action.{Action}
+use Rattle.table.specs.declared.Message.{Message}
+use Rattle.table.specs.declared.Named.{Named}
+use Rattle.table.specs.declared.Named.the-variants.{Known}
 use Rattle.messages.specs.declared.Asked.{Asked}
 use Rattle.messages.specs.declared.Asked.the-variants.{Order}
-use Rattle.messages.specs.Table.{row, messageOf, fieldsOf, startIn, countIn, anyBytes}
+use Rattle.table.specs.Table.{row, messageOf, fieldsOf, startIn, countIn, anyBytes}
 use Rattle.messages.specs.Asked.{askedOf, judged, numberGiven}
 use Rattle.messages.proofs.Judged.{Right, told, ordered}
 use Rattle.kinds.specs.declared.Lengths.{Lengths}

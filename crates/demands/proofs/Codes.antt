@@ -12,14 +12,14 @@ use Rattle.digits.specs.Text.{text}
 use Rattle.digits.proofs.Inverse.{inverse}
 use Rattle.digits.proofs.Bools.{was-not}
 use Rattle.kinds.specs.Kinds.{columnsTag, kindOf, heldIn, runOf}
-use Rattle.areas.specs.Pairs.{digitsIn}
-use Rattle.areas.proofs.Promised.{every-digit}
+use Rattle.pairs.specs.Pairs.{digitsIn}
+use Rattle.pairs.proofs.Promised.{every-digit}
 use Rattle.points.proofs.Parts.{all-take, all-drop, all-part}
-use Rattle.messages.specs.declared.table.Follows.the-variants.{Nothing, RunBytes}
-use Rattle.messages.specs.declared.table.Action.the-variants.{ReadRun, ChangeRun}
-use Rattle.messages.specs.declared.table.Message.{Message}
-use Rattle.messages.specs.declared.table.Named.the-variants.{Known}
-use Rattle.messages.specs.Table.{row, fieldsOf, startIn, countIn}
+use Rattle.table.specs.declared.Follows.the-variants.{Nothing, RunBytes}
+use Rattle.table.specs.declared.Action.the-variants.{ReadRun, ChangeRun}
+use Rattle.table.specs.declared.Message.{Message}
+use Rattle.table.specs.declared.Named.the-variants.{Known}
+use Rattle.table.specs.Table.{row, fieldsOf, startIn, countIn}
 use Rattle.queries.specs.Replies.{headOf, runText}
 use Rattle.kinds.specs.declared.Lengths.{Lengths}
 use Rattle.calls.specs.Calls.{Call, lengthsOf, areaIn}

@@ -15,12 +15,12 @@ use Rattle.frames.specs.Frame.{CR, LF, stationIn, messageIn, contentIn, scIn, s
 use Rattle.frames.proofs.Bools.{or-true}
 use Rattle.frames.proofs.Promised.{closed-true, says-digits}
 use Rattle.kinds.specs.Kinds.{pointsTag, columnsTag}
-use Rattle.messages.specs.declared.table.Follows.the-variants.{Nothing, Points, RunBytes}
-use Rattle.messages.specs.declared.table.Action.the-variants.{CountPoints, ListPoints, ReadRun, WritePoints, ClearRun, ChangeRun}
-use Rattle.messages.specs.declared.table.Message.{Message}
-use Rattle.messages.specs.declared.table.Named.{Named}
-use Rattle.messages.specs.declared.table.Named.the-variants.{Known, Unknown}
-use Rattle.messages.specs.Table.{row, messageNumbered, messageOf}
+use Rattle.table.specs.declared.Follows.the-variants.{Nothing, Points, RunBytes}
+use Rattle.table.specs.declared.Action.the-variants.{CountPoints, ListPoints, ReadRun, WritePoints, ClearRun, ChangeRun}
+use Rattle.table.specs.declared.Message.{Message}
+use Rattle.table.specs.declared.Named.{Named}
+use Rattle.table.specs.declared.Named.the-variants.{Known, Unknown}
+use Rattle.table.specs.Table.{row, messageNumbered, messageOf}
 use Rattle.messages.proofs.Shapes.{in-frame}
 use Rattle.demands.specs.Survive.{before, commandOf}
 

@@ -7,7 +7,7 @@ use Rattle.kinds.specs.Kinds.{kindOf, holds, runOf, put}
 use Rattle.journal.specs.Journal.{encode, encodes, entryFits, frontOf, whole, entryAt, entriesIn, kept, added, areaOf, lastOf, othersOf, lastEntry, others, puts}
 use Rattle.points.specs.Axes.{axesFrom, axesOf}
 use Rattle.points.specs.Point.{positionsOf, pointOf, lengthOf, fillsOf, positionBytes, slotOf, slotsOf, positionsIn, pointIn, effectiveIn, positionDigits, pointDigits}
-use Rattle.messages.specs.Table.{messageNumbered, messageOf, patternFits, patternsFit}
+use Rattle.table.specs.Table.{messageNumbered, messageOf, patternFits, patternsFit}
 use Rattle.messages.specs.Asked.{askedRows, judged, askedOf}
 use Rattle.listing.specs.Listing.{listed}
 use Rattle.queries.specs.Replies.{recordsDigits}

@@ -14,12 +14,12 @@ use Rattle.digits.proofs.Laid.{laid-nothing, laid-front}
 use Rattle.frames.specs.Frame.{contentIn, errorOf}
 use Rattle.frames.proofs.Closing.{length-reply}
 use Rattle.kinds.specs.declared.Held.{Held}
-use Rattle.messages.specs.declared.table.Named.{Named}
-use Rattle.messages.specs.declared.table.Named.the-variants.{Known, Unknown}
+use Rattle.table.specs.declared.Named.{Named}
+use Rattle.table.specs.declared.Named.the-variants.{Known, Unknown}
 use Rattle.messages.specs.declared.Asked.{Asked}
 use Rattle.messages.specs.declared.Asked.the-variants.{Refused, Order}
 use Rattle.messages.specs.Rows.{Row, firstOf}
-use Rattle.messages.specs.Table.{messageOf}
+use Rattle.table.specs.Table.{messageOf}
 use Rattle.messages.specs.Asked.{askedRows, numberGiven}
 use Rattle.calls.specs.Calls.{Areas, Call, Outcome}
 use Rattle.refusals.specs.Refusals.{areaRows, frameRows, silentRows, silent, silentOf, backRefusalOf}

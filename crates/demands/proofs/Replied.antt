@@ -8,13 +8,13 @@ use Rattle.digits.specs.Digits.{isDigit, worthOf, byteOf}
 use Rattle.digits.specs.Text.{text}
 use Rattle.frames.specs.Frame.{normal, threeOf, messageIn, contentIn, replyOf}
 use Rattle.frames.proofs.Promised.{reply}
-use Rattle.messages.specs.declared.table.Follows.the-variants.{TenBytes}
-use Rattle.messages.specs.declared.table.Action.the-variants.{SayBack}
-use Rattle.messages.specs.declared.table.Message.{Message}
-use Rattle.messages.specs.declared.table.Named.the-variants.{Known}
+use Rattle.table.specs.declared.Follows.the-variants.{TenBytes}
+use Rattle.table.specs.declared.Action.the-variants.{SayBack}
+use Rattle.table.specs.declared.Message.{Message}
+use Rattle.table.specs.declared.Named.the-variants.{Known}
 use Rattle.messages.specs.declared.Asked.{Asked}
 use Rattle.messages.specs.declared.Asked.the-variants.{Refused, Order}
-use Rattle.messages.specs.Table.{row, messageNumbered, messageOf}
+use Rattle.table.specs.Table.{row, messageNumbered, messageOf}
 use Rattle.messages.specs.Asked.{askedOf, numberGiven}
 use Rattle.messages.proofs.Judged.{refused-some, told}
 use Rattle.calls.specs.Calls.{Call, Outcome}

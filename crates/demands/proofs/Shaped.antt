@@ -16,7 +16,7 @@ use Rattle.journal.specs.Laws.{AllGood}
 use Rattle.journal.specs.Laws as journal
 use Rattle.journal.proofs.Again.{Again, again}
 use Rattle.messages.specs.Rows.{firstOf}
-use Rattle.messages.specs.Table.{messageOf}
+use Rattle.table.specs.Table.{messageOf}
 use Rattle.messages.specs.Asked.{askedRows, askedOf}
 use Rattle.calls.specs.Calls.{Areas, Sent, lengthsOf, areaIn, entriesOf}
 use Rattle.refusals.specs.Refusals.{pointsFit, leastJournal, journalFits, axesFit, refusalOf, backRefusalOf}

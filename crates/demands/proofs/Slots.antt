@@ -24,7 +24,7 @@ use Rattle.points.proofs.Measured.{least}
 use Rattle.points.proofs.Parts.{all-take, all-drop}
 use Rattle.points.proofs.Slotted.{length-pointSlot}
 use Rattle.points.proofs.Promised.{slot, every-digit}
-use Rattle.messages.specs.Table.{patternFits, patternsFit}
+use Rattle.table.specs.Table.{patternFits, patternsFit}
 use Rattle.listing.specs.Listing.{listing, listed}
 use Rattle.demands.specs.Survive.{sent, fitting}
 use Rattle.demands.proofs.Asking.{same-part}

@@ -11,7 +11,7 @@ use Rattle.kinds.specs.Kinds.{kindOf, holds}
 use Rattle.journal.specs.Journal.{whole}
 use Rattle.points.specs.Axes.{axesFrom, axesOf}
 use Rattle.points.specs.Point.{lengthOf, fillsOf}
-use Rattle.messages.specs.Table.{messageNumbered, messageOf, patternFits, patternsFit}
+use Rattle.table.specs.Table.{messageNumbered, messageOf, patternFits, patternsFit}
 use Rattle.messages.specs.Asked.{askedRows, judged, askedOf}
 use Rattle.refusals.specs.Refusals.{pointsFit, journalFits, recordsFit, axesFit, areaRows, frameRows, silentRows, silentOf}
 use Rattle.link.specs.Answer.{answerOf}

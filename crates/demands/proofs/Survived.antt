@@ -16,13 +16,13 @@ use Rattle.kinds.specs.Kinds.{pointsTag, pointsOf, holds, put, heldIn}
 use Rattle.kinds.proofs.Known.{kind-points, within}
 use Rattle.points.specs.Point.{effectiveIn}
 use Rattle.points.proofs.Parts.{all-drop}
-use Rattle.messages.specs.declared.table.Follows.{Follows}
-use Rattle.messages.specs.declared.table.Follows.the-variants.{Nothing, Points}
-use Rattle.messages.specs.declared.table.Action.{Action}
-use Rattle.messages.specs.declared.table.Action.the-variants.{ListPoints, WritePoints, ClearRun}
-use Rattle.messages.specs.declared.table.Message.{Message}
-use Rattle.messages.specs.declared.table.Named.the-variants.{Known}
-use Rattle.messages.specs.Table.{row, startIn, countIn, patternsFit}
+use Rattle.table.specs.declared.Follows.{Follows}
+use Rattle.table.specs.declared.Follows.the-variants.{Nothing, Points}
+use Rattle.table.specs.declared.Action.{Action}
+use Rattle.table.specs.declared.Action.the-variants.{ListPoints, WritePoints, ClearRun}
+use Rattle.table.specs.declared.Message.{Message}
+use Rattle.table.specs.declared.Named.the-variants.{Known}
+use Rattle.table.specs.Table.{row, startIn, countIn, patternsFit}
 use Rattle.messages.proofs.Judged.{Right}
 use Rattle.listing.specs.Listing.{listed, joined}
 use Rattle.kinds.specs.declared.Lengths.{Lengths}

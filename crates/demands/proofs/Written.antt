@@ -21,10 +21,10 @@ use Rattle.journal.specs.Journal.{Entry, puts, entryFor}
 use Rattle.journal.specs.Laws.{Good}
 use Rattle.journal.proofs.Codec.{Bytes}
 use Rattle.journal.proofs.Fitting.{good, puts-other}
-use Rattle.messages.specs.declared.table.Action.{Action}
-use Rattle.messages.specs.declared.table.Action.the-variants.{SayBack, CountPoints, ListPoints, ReadRun, AxisStatus, WritePoints, ClearRun, ChangeRun}
-use Rattle.messages.specs.declared.table.Message.{Message}
-use Rattle.messages.specs.Table.{Narrow}
+use Rattle.table.specs.declared.Action.{Action}
+use Rattle.table.specs.declared.Action.the-variants.{SayBack, CountPoints, ListPoints, ReadRun, AxisStatus, WritePoints, ClearRun, ChangeRun}
+use Rattle.table.specs.declared.Message.{Message}
+use Rattle.table.specs.Table.{Narrow}
 use Rattle.queries.specs.Replies.{headOf}
 use Rattle.calls.specs.Calls.{Areas, Call, Outcome, lengthsOf, areaIn, putIn, oldEntry, written}
 use Rattle.refusals.specs.Refusals.{journalFits}

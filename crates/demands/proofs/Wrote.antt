@@ -18,10 +18,10 @@ use Rattle.journal.specs.Laws.{Good}
 use Rattle.journal.proofs.Codec.{length-encode}
 use Rattle.journal.proofs.Again.{good-added}
 use Rattle.journal.proofs.Fitting.{good}
-use Rattle.messages.specs.declared.table.Message.{Message}
+use Rattle.table.specs.declared.Message.{Message}
 use Rattle.messages.specs.declared.Asked.{Asked}
 use Rattle.messages.specs.declared.Asked.the-variants.{Refused, Order}
-use Rattle.messages.specs.Table.{restIn}
+use Rattle.table.specs.Table.{restIn}
 use Rattle.messages.specs.Asked.{askedOf}
 use Rattle.calls.specs.Calls.{Areas, Sent, Outcome, areaIn, putIn, oldEntry, written}
 use Rattle.link.specs.Answer.{writes, newBytes, areasAfter, storedBy, answerOf}

@@ -15,11 +15,11 @@ use Rattle.journal.specs.Journal.{entryFor}
 use Rattle.points.specs.Units.{position}
 use Rattle.points.specs.Point.{positionOf}
 use Rattle.axes.specs.Records.{zeroRecord, eightAxes}
-use Rattle.messages.specs.declared.table.Follows.the-variants.{Nothing as NoMore}
-use Rattle.messages.specs.declared.table.Action.the-variants.{ListPoints}
-use Rattle.messages.specs.declared.table.Message.{Message}
+use Rattle.table.specs.declared.Follows.the-variants.{Nothing as NoMore}
+use Rattle.table.specs.declared.Action.the-variants.{ListPoints}
+use Rattle.table.specs.declared.Message.{Message}
 use Rattle.messages.specs.declared.Asked.the-variants.{Refused, Order}
-use Rattle.messages.specs.Table.{row}
+use Rattle.table.specs.Table.{row}
 use Rattle.messages.specs.Asked.{askedOf}
 use Rattle.calls.specs.Calls.{Areas, Call, callOf, fresh, putIn}
 use Rattle.link.specs.Answer.{answerOf}

@@ -12,9 +12,9 @@ use Rattle.frames.specs.Frame.{command, normal, CR, LF, contentIn, scOf, replyO
 use Rattle.kinds.specs.declared.Kind.{Kind}
 use Rattle.kinds.specs.Kinds.{pointsTag, columnsTag, pointsOf, kindOf, heldIn, placeOf, runOf}
 use Rattle.points.specs.Point.{lengthOf, effectiveIn}
-use Rattle.messages.specs.declared.table.Message.{Message}
-use Rattle.messages.specs.declared.table.Named.the-variants.{Known}
-use Rattle.messages.specs.Table.{messageOf, startIn, countIn}
+use Rattle.table.specs.declared.Message.{Message}
+use Rattle.table.specs.declared.Named.the-variants.{Known}
+use Rattle.table.specs.Table.{messageOf, startIn, countIn}
 use Rattle.listing.specs.Listing.{joined}
 use Rattle.calls.specs.Calls.{Areas, Call, Outcome, callOf, lengthsOf, areaIn}
 use Rattle.link.specs.Answer.{held, rest, answerOf}

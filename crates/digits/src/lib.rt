@@ -1,5 +1,5 @@
 // Digits 0-9 and A-F, capitals only, and fields of them (document 01, "Frame").
-mod table;
+mod worths;
 
 ghost use mathlib.Core.Path.{_≡_};
 ghost use Prim.Native.Nat.{_+_, _≤_, _<_};
@@ -27,7 +27,7 @@ pub fn is_digit(b: u8) -> bool
 pub fn worth(b: u8) -> u8
     ensures { λ r. ⌜ (r ≡ worthOf b) × (r < 16) ⌝ }
 {
-    table::WORTH[b as usize]
+    worths::WORTH[b as usize]
 }
 
 // The byte of a digit that is worth n.

@@ -12,7 +12,7 @@ use Rattle.axes.specs.declared.Axes.{Axes}
 use Rattle.axes.specs.Records.{noAxes}
 use Rattle.axes.specs.Run.{lentAxes}
 use Rattle.messages.specs.Rows.{firstOf}
-use Rattle.messages.specs.Table.{messageOf}
+use Rattle.table.specs.Table.{messageOf}
 use Rattle.messages.specs.Asked.{askedRows}
 use Rattle.calls.specs.declared.Settings.{Settings}
 use Rattle.calls.specs.Calls.{Areas, lengthsOf, callOf}

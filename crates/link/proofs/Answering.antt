@@ -11,11 +11,11 @@ use Rattle.digits.proofs.Bools.{either}
 use Rattle.frames.specs.Frame.{contentIn}
 use Rattle.kinds.specs.declared.Held.{Held}
 use Rattle.kinds.specs.Kinds.{heldIn}
-use Rattle.messages.specs.declared.table.Message.{Message}
+use Rattle.table.specs.declared.Message.{Message}
 use Rattle.messages.specs.declared.Asked.{Asked}
 use Rattle.messages.specs.declared.Asked.the-variants.{Refused, Order}
 use Rattle.messages.specs.Rows.{firstOf}
-use Rattle.messages.specs.Table.{messageOf}
+use Rattle.table.specs.Table.{messageOf}
 use Rattle.messages.specs.Asked.{askedRows, askedOf, judged, numberGiven}
 use Rattle.messages.proofs.Judged.{number-judged, refused-some}
 use Rattle.calls.specs.Calls.{Areas, Call, Outcome, lengthsOf, steppedBack}

@@ -16,17 +16,17 @@ use Rattle.frames.specs.Frame.{contentIn}
 use Rattle.kinds.specs.declared.Kind.{Kind}
 use Rattle.kinds.specs.declared.Held.{Held}
 use Rattle.kinds.specs.Kinds.{Sound, pointsTag, columnsTag, pointsOf, columnsOf, kindOf, heldIn, holds, sizeOf}
-use Rattle.areas.specs.Pairs.{bytesIn}
+use Rattle.pairs.specs.Pairs.{bytesIn}
 use Rattle.kinds.proofs.Known.{kind-points, kind-columns, within}
-use Rattle.areas.proofs.Paired.{length-bytesIn}
+use Rattle.pairs.proofs.Paired.{length-bytesIn}
 use Rattle.points.specs.Point.{lengthOf, pointOf, slotOf, slotsOf}
 use Rattle.points.proofs.Slotted.{length-pointSlot}
-use Rattle.messages.specs.declared.table.Follows.the-variants.{Points as PointsFollow, RunBytes}
-use Rattle.messages.specs.declared.table.Action.{Action}
-use Rattle.messages.specs.declared.table.Action.the-variants.{SayBack, CountPoints, ListPoints, ReadRun, AxisStatus, WritePoints, ClearRun, ChangeRun}
-use Rattle.messages.specs.declared.table.Message.{Message}
+use Rattle.table.specs.declared.Follows.the-variants.{Points as PointsFollow, RunBytes}
+use Rattle.table.specs.declared.Action.{Action}
+use Rattle.table.specs.declared.Action.the-variants.{SayBack, CountPoints, ListPoints, ReadRun, AxisStatus, WritePoints, ClearRun, ChangeRun}
+use Rattle.table.specs.declared.Message.{Message}
 use Rattle.messages.specs.declared.Asked.the-variants.{Order}
-use Rattle.messages.specs.Table.{messageOf, fieldsOf, startIn, countIn, restIn, followsRight, anyBytes, Narrow}
+use Rattle.table.specs.Table.{messageOf, fieldsOf, startIn, countIn, restIn, followsRight, anyBytes, Narrow}
 use Rattle.messages.specs.Asked.{askedOf}
 use Rattle.messages.proofs.Judged.{Right, Told, told, written}
 use Rattle.messages.proofs.Shapes.{Shape, Shaped, shaped}

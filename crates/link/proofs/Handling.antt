@@ -15,16 +15,16 @@ use Rattle.frames.specs.Frame.{contentIn}
 use Rattle.kinds.specs.declared.Kind.{Kind}
 use Rattle.kinds.specs.declared.Held.{Held}
 use Rattle.kinds.specs.Kinds.{pointsTag, columnsTag, pointsOf, columnsOf, kindOf, holds, placeOf, sizeOf}
-use Rattle.areas.specs.Pairs.{bytesIn}
+use Rattle.pairs.specs.Pairs.{bytesIn}
 use Rattle.kinds.proofs.Known.{kind-points, kind-columns, within, room}
 use Rattle.points.specs.Point.{fillsOf, slotsOf}
 use Rattle.points.proofs.Parts.{all-drop}
-use Rattle.messages.specs.declared.table.Follows.the-variants.{TenBytes, AxisPattern, Points, RunBytes}
-use Rattle.messages.specs.declared.table.Action.{Action}
-use Rattle.messages.specs.declared.table.Action.the-variants.{SayBack, CountPoints, ListPoints, ReadRun, AxisStatus, WritePoints, ClearRun, ChangeRun}
-use Rattle.messages.specs.declared.table.Message.{Message}
+use Rattle.table.specs.declared.Follows.the-variants.{TenBytes, AxisPattern, Points, RunBytes}
+use Rattle.table.specs.declared.Action.{Action}
+use Rattle.table.specs.declared.Action.the-variants.{SayBack, CountPoints, ListPoints, ReadRun, AxisStatus, WritePoints, ClearRun, ChangeRun}
+use Rattle.table.specs.declared.Message.{Message}
 use Rattle.messages.specs.declared.Asked.the-variants.{Order}
-use Rattle.messages.specs.Table.{fieldsOf, restIn, followsRight, anyBytes, Narrow}
+use Rattle.table.specs.Table.{fieldsOf, restIn, followsRight, anyBytes, Narrow}
 use Rattle.messages.proofs.Shapes.{Shape}
 use Rattle.queries.specs.Replies.{sameText, countText, listText, runText, axesText, headOf}
 use Rattle.writes.specs.Writes.{Ready, Written}

@@ -14,8 +14,8 @@ use Rattle.kinds.specs.declared.Held.{Held}
 use Rattle.kinds.specs.Kinds.{pointsTag, columnsTag, pointsOf, columnsOf, kindOf, sizeOf, put}
 use Rattle.kinds.proofs.Known.{own-kind, kind-points, kind-columns, tag-of}
 use Rattle.journal.specs.Journal.{encodes, entriesIn, added, areaOf, puts, entryFor}
-use Rattle.messages.specs.declared.table.Action.{Action}
-use Rattle.messages.specs.declared.table.Message.{Message}
+use Rattle.table.specs.declared.Action.{Action}
+use Rattle.table.specs.declared.Message.{Message}
 use Rattle.messages.specs.declared.Asked.{Asked}
 use Rattle.messages.specs.declared.Asked.the-variants.{Refused, Order}
 use Rattle.messages.specs.Asked.{numberGiven}

@@ -9,14 +9,14 @@ use Rattle.digits.specs.Digits.{numberOf}
 use Rattle.frames.specs.Frame.{contentIn, replyOf, errorOf, normal}
 use Rattle.kinds.specs.declared.Held.{Held}
 use Rattle.kinds.specs.Kinds.{pointsOf, kindOf, heldIn, placeOf}
-use Rattle.areas.specs.Pairs.{bytesIn}
+use Rattle.pairs.specs.Pairs.{bytesIn}
 use Rattle.points.specs.Point.{slotsOf}
-use Rattle.messages.specs.declared.table.Action.{Action}
-use Rattle.messages.specs.declared.table.Action.the-variants.{SayBack, CountPoints, ListPoints, ReadRun, AxisStatus, WritePoints, ClearRun, ChangeRun}
-use Rattle.messages.specs.declared.table.Message.{Message}
+use Rattle.table.specs.declared.Action.{Action}
+use Rattle.table.specs.declared.Action.the-variants.{SayBack, CountPoints, ListPoints, ReadRun, AxisStatus, WritePoints, ClearRun, ChangeRun}
+use Rattle.table.specs.declared.Message.{Message}
 use Rattle.messages.specs.declared.Asked.{Asked}
 use Rattle.messages.specs.declared.Asked.the-variants.{Refused, Order}
-use Rattle.messages.specs.Table.{restIn}
+use Rattle.table.specs.Table.{restIn}
 use Rattle.messages.specs.Asked.{askedOf, numberGiven}
 use Rattle.queries.specs.Replies.{headOf, sameText, countText, listText, runText, axesText}
 use Rattle.calls.specs.Calls.{Areas, Call, Outcome, lengthsOf, areaIn, written, steppedBack}

@@ -7,7 +7,7 @@ use Rattle.digits.specs.Laid.{laid}
 use Rattle.calls.specs.Calls.{Areas, Call}
 use Rattle.link.specs.declared.Answered.{Answered}
 use Rattle.link.specs.declared.Back.{Back}
-use Rattle.messages.specs.declared.table.Message.{Message}
+use Rattle.table.specs.declared.Message.{Message}
 use Rattle.messages.specs.declared.Asked.the-variants.{Order}
 use Rattle.refusals.specs.Refusals.{silentOf}
 use Rattle.link.specs.Answer.{asked, answerOf, backOf}

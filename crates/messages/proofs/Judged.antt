@@ -13,15 +13,15 @@ use Rattle.kinds.specs.declared.Held.{Held}
 use Rattle.kinds.specs.declared.Kind.{Kind}
 use Rattle.kinds.specs.Kinds.{kindOf, holds}
 use Rattle.points.specs.Point.{fillsOf}
-use Rattle.messages.specs.declared.table.Follows.{Follows}
-use Rattle.messages.specs.declared.table.Follows.the-variants.{Nothing, TenBytes, AxisPattern, Points, RunBytes}
-use Rattle.messages.specs.declared.table.Message.{Message}
-use Rattle.messages.specs.declared.table.Named.{Named}
-use Rattle.messages.specs.declared.table.Named.the-variants.{Known, Unknown}
+use Rattle.table.specs.declared.Follows.{Follows}
+use Rattle.table.specs.declared.Follows.the-variants.{Nothing, TenBytes, AxisPattern, Points, RunBytes}
+use Rattle.table.specs.declared.Message.{Message}
+use Rattle.table.specs.declared.Named.{Named}
+use Rattle.table.specs.declared.Named.the-variants.{Known, Unknown}
 use Rattle.messages.specs.declared.Asked.{Asked}
 use Rattle.messages.specs.declared.Asked.the-variants.{Refused, Order}
 use Rattle.messages.specs.Rows.{firstOf}
-use Rattle.messages.specs.Table.{messageOf, fieldsOf, programIn, startIn, countIn, restIn, followsRight, anyBytes, havePoints, patternsFit}
+use Rattle.table.specs.Table.{messageOf, fieldsOf, programIn, startIn, countIn, restIn, followsRight, anyBytes, havePoints, patternsFit}
 use Rattle.messages.specs.Asked.{notDigits, wrongLength, wrongProgram, countZero, notHeld, wrongPattern, askedRows, judged, askedOf, numberGiven}
 
 abbrev pub pick : Bool → Bool → Bool → Bool → Bool → Bool → ℕ

@@ -8,7 +8,7 @@ use native.Mathlib.Nat.{not-suc-le-zero}
 use lib.ListN.{take, drop}
 use Rattle.digits.specs.Digits.{numberOf}
 use Rattle.points.specs.Point.{lengthOf}
-use Rattle.messages.specs.Table.{patternFits, patternsFit}
+use Rattle.table.specs.Table.{patternFits, patternsFit}
 
 pub patterns-next : (fitted left : ℕ) (digits : List ℕ) → 0 < left → patternFits fitted (numberOf (take 2 digits)) ≡ true
     → patternsFit fitted left digits ≡ patternsFit fitted (left - 1) (drop (lengthOf digits) digits)

@@ -8,13 +8,13 @@ use lib.Dec.{eqb}
 use Rattle.digits.specs.Digits.{allDigits, numberOf}
 use Rattle.frames.specs.Frame.{messageIn}
 use Rattle.kinds.specs.Kinds.{pointsTag, columnsTag}
-use Rattle.messages.specs.declared.table.Follows.the-variants.{TenBytes, AxisPattern, Points, RunBytes}
-use Rattle.messages.specs.declared.table.Action.{Action}
-use Rattle.messages.specs.declared.table.Action.the-variants.{SayBack, CountPoints, ListPoints, ReadRun, AxisStatus, WritePoints, ClearRun, ChangeRun}
-use Rattle.messages.specs.declared.table.Message.{Message}
-use Rattle.messages.specs.declared.table.Named.{Named}
-use Rattle.messages.specs.declared.table.Named.the-variants.{Known, Unknown}
-use Rattle.messages.specs.Table.{messages, namedIn, messageNumbered, messageOf, fieldsOf, Narrow}
+use Rattle.table.specs.declared.Follows.the-variants.{TenBytes, AxisPattern, Points, RunBytes}
+use Rattle.table.specs.declared.Action.{Action}
+use Rattle.table.specs.declared.Action.the-variants.{SayBack, CountPoints, ListPoints, ReadRun, AxisStatus, WritePoints, ClearRun, ChangeRun}
+use Rattle.table.specs.declared.Message.{Message}
+use Rattle.table.specs.declared.Named.{Named}
+use Rattle.table.specs.declared.Named.the-variants.{Known, Unknown}
+use Rattle.table.specs.Table.{messages, namedIn, messageNumbered, messageOf, fieldsOf, Narrow}
 
 -- what holds of each row holds of the one that is found
 abbrev pub Each : (Message → Type 0) → List Message → Type 0

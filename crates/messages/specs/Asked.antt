@@ -7,13 +7,13 @@ use Rattle.digits.specs.Digits.{allDigits}
 use Rattle.frames.specs.Frame.{contentIn}
 use Rattle.kinds.specs.declared.Held.{Held}
 use Rattle.kinds.specs.Kinds.{kindOf, holds}
-use Rattle.messages.specs.declared.table.Message.{Message}
-use Rattle.messages.specs.declared.table.Named.{Named}
-use Rattle.messages.specs.declared.table.Named.the-variants.{Known, Unknown}
+use Rattle.table.specs.declared.Message.{Message}
+use Rattle.table.specs.declared.Named.{Named}
+use Rattle.table.specs.declared.Named.the-variants.{Known, Unknown}
 use Rattle.messages.specs.declared.Asked.{Asked}
 use Rattle.messages.specs.declared.Asked.the-variants.{Refused, Order}
 use Rattle.messages.specs.Rows.{Row, _when_, firstOf}
-use Rattle.messages.specs.Table.{messageOf, programIn, startIn, countIn, restIn, lengthRight, anyBytes, havePoints, patternsFit}
+use Rattle.table.specs.Table.{messageOf, programIn, startIn, countIn, restIn, lengthRight, anyBytes, havePoints, patternsFit}
 
 -- 102: "a content byte isn't a digit (not 200H)"
 abbrev pub notDigits : Message → List ℕ → Bool

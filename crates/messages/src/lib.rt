@@ -17,12 +17,10 @@ ghost use Rattle.digits.specs.Digits.{allDigits, numberOf};
 ghost use Rattle.frames.specs.Frame.{contentIn};
 ghost use Rattle.kinds.specs.Kinds.{Sound, holds};
 ghost use Rattle.points.specs.Point.{fillsOf};
-ghost use Rattle.messages.specs.declared.table.Named.the-variants.{Known};
-ghost use Rattle.messages.specs.Table.{messageOf, fieldsOf, programIn, startIn, countIn, followsRight, Narrow};
-ghost use Rattle.messages.specs.Table.{anyBytes, havePoints, patternFits, patternsFit};
+ghost use Rattle.table.specs.declared.Named.the-variants.{Known};
+ghost use Rattle.table.specs.Table.{messageOf, fieldsOf, programIn, startIn, countIn, followsRight, Narrow};
+ghost use Rattle.table.specs.Table.{anyBytes, havePoints, patternFits, patternsFit};
 ghost use Rattle.messages.specs.Asked.{notDigits, judged, askedOf};
-
-pub mod table; // one row a message
 
 // What a frame asks: a refusal, 101 to 107, or a message's order with its start number and count.
 pub enum Asked {

@@ -13,16 +13,16 @@ use Rattle.digits.proofs.Laid.{laid-on}
 use Rattle.digits.proofs.Inverse.{as-many}
 use Rattle.kinds.specs.declared.Kind.{Kind}
 use Rattle.kinds.specs.Kinds.{placeOf, runOf}
-use Rattle.areas.specs.Pairs.{digitsIn}
-use Rattle.areas.proofs.Paired.{length-digitsIn}
+use Rattle.pairs.specs.Pairs.{digitsIn}
+use Rattle.pairs.proofs.Paired.{length-digitsIn}
 use Rattle.axes.specs.declared.AxisRecord.{AxisRecord}
 use Rattle.points.specs.Axes.{axesOf}
 use Rattle.points.specs.Point.{effectiveIn}
 use Rattle.listing.specs.Listing.{listed, joined}
 use Rattle.frames.specs.Frame.{replyOf, normal}
 use Rattle.frames.proofs.Closing.{length-reply, closed-over}
-use Rattle.messages.specs.declared.table.Message.{Message}
-use Rattle.messages.specs.Table.{Narrow}
+use Rattle.table.specs.declared.Message.{Message}
+use Rattle.table.specs.Table.{Narrow}
 use Rattle.queries.specs.Laws.{Replied}
 use Rattle.queries.specs.Replies.{idOf, headOf, countText, listText, runText, recordsDigits, axesText}
 use Rattle.queries.proofs.Recorded.{length-records}

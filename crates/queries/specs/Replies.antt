@@ -8,13 +8,13 @@ use mir.Val.{ofZ}
 use Rattle.digits.specs.Digits.{digitsOf}
 use Rattle.kinds.specs.declared.Kind.{Kind}
 use Rattle.kinds.specs.Kinds.{runOf}
-use Rattle.areas.specs.Pairs.{digitsIn}
+use Rattle.pairs.specs.Pairs.{digitsIn}
 use Rattle.axes.specs.declared.AxisRecord.{AxisRecord}
 use Rattle.axes.specs.Records.{zeroRecord}
 use Rattle.points.specs.Axes.{axesOf}
 use Rattle.points.specs.Point.{effectiveIn}
 use Rattle.listing.specs.Listing.{listed, joined}
-use Rattle.messages.specs.declared.table.Message.{Message}
+use Rattle.table.specs.declared.Message.{Message}
 
 -- the message ID, as it was read
 abbrev pub idOf : Message → List ℕ

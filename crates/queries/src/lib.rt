@@ -1,14 +1,14 @@
 // The replies to queries, laid into the lent reply area (document 01, "Each message").
-use areas::pairs::put_digits;
 use areas::runs::put_run;
 use axes::AxisRecord;
 use digits::put_number;
 use frames::replies::close_reply;
 use kinds::Kind;
 use listing::put_listings;
-use messages::table::Message;
+use pairs::put_digits;
 use points::patterns::ones;
 use slots::count_effective;
+use table::Message;
 ghost use mathlib.Core.Path.{_≡_};
 ghost use mathlib.Core.List.{_++_};
 ghost use Prim.Native.Nat.{_+_, _*_, _≤_, _<_};
@@ -17,7 +17,7 @@ ghost use Rattle.digits.specs.Digits.{digitsOf};
 ghost use Rattle.digits.specs.Laid.{laid};
 ghost use Rattle.kinds.specs.Kinds.{sizeOf, placeOf};
 ghost use Rattle.points.specs.Axes.{axesOf};
-ghost use Rattle.messages.specs.Table.{Narrow};
+ghost use Rattle.table.specs.Table.{Narrow};
 ghost use Rattle.queries.specs.Replies.{headOf, sameText, countText, listText, runText, recordDigits, recordsDigits, axesText};
 ghost use Rattle.queries.specs.Laws.{Replied};
 

@@ -10,7 +10,7 @@ use borrow.Author.Tests.{lt-ltb, le-ltb, eq-eqb, ne-eqb}
 use Rattle.digits.proofs.Bools.{was-not}
 use Rattle.frames.specs.Frame.{contentIn, shaped, sumPasses, stationPasses}
 use Rattle.messages.specs.Rows.{firstOf}
-use Rattle.messages.specs.Table.{messageOf}
+use Rattle.table.specs.Table.{messageOf}
 use Rattle.messages.specs.Asked.{askedRows}
 use Rattle.axes.specs.declared.Axes.{Axes}
 use Rattle.calls.specs.declared.Settings.{Settings}

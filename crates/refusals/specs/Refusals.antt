@@ -11,7 +11,7 @@ use Rattle.journal.specs.Journal.{whole}
 use Rattle.axes.specs.declared.AxisRecord.{AxisRecord}
 use Rattle.axes.specs.declared.Axes.{Axes}
 use Rattle.messages.specs.Rows.{Row, _when_, firstOf}
-use Rattle.messages.specs.Table.{messageOf}
+use Rattle.table.specs.Table.{messageOf}
 use Rattle.messages.specs.Asked.{askedRows}
 use Rattle.calls.specs.declared.Settings.{Settings}
 use Rattle.calls.specs.declared.Kept.{Kept}

@@ -1,16 +1,16 @@
 // The writes: a run of one kind is put into its area, and what stood there goes into the journal (document 01, "Each message" and "Journal").
-use areas::pairs::set_bytes;
 use areas::runs::clear_run;
 use journal::add;
 use kinds::Held;
 use kinds::Kind;
+use pairs::set_bytes;
 use slots::lay_points;
 ghost use mathlib.Core.Path.{_≡_};
 ghost use mathlib.Core.Bool.{true};
 ghost use Prim.Native.Nat.{_+_, _*_};
 ghost use lib.ListN.{length, replicate};
 ghost use Rattle.digits.specs.Digits.{allDigits};
-ghost use Rattle.areas.specs.Pairs.{bytesIn};
+ghost use Rattle.pairs.specs.Pairs.{bytesIn};
 ghost use Rattle.points.specs.Point.{fillsOf, slotsOf};
 ghost use Rattle.writes.specs.Writes.{Ready, Entered, Written};
 

@@ -7,8 +7,8 @@ use Rattle.frames.specs.Frame.{contentIn}
 use Rattle.kinds.specs.declared.Held.{Held}
 use Rattle.kinds.specs.Kinds.{kindOf}
 use Rattle.queries.specs.Laws.{Replied}
-use Rattle.messages.specs.declared.table.Message.{Message}
-use Rattle.messages.specs.Table.{fieldsOf}
+use Rattle.table.specs.declared.Message.{Message}
+use Rattle.table.specs.Table.{fieldsOf}
 use Rattle.calls.specs.Calls.{Call, callOf, areasOf}
 use Rattle.link.specs.Answer.{held, rest, writes}
 use Rattle.link.specs.Contract.{Heard}

@@ -12,7 +12,7 @@ use Rattle.points.specs.Point.{lengthOf, fillsOf}
 use Rattle.points.proofs.Parts.{all-part, all-drop}
 use Rattle.points.proofs.Measured.{least, fills-next, fills-front, rest-of}
 use Rattle.digits.proofs.Inverse.{inverse}
-use Rattle.messages.specs.Table.{patternFits, patternsFit}
+use Rattle.table.specs.Table.{patternFits, patternsFit}
 use Rattle.digits.proofs.Bools.{was-false, was-true}
 use Rattle.messages.proofs.Patterns.{patterns-next, patterns-stop, patterns-done}
 use Rattle.messages.proofs.fit_patterns.Statement.{statement}

@@ -1,5 +1,5 @@
 use borrow.Author.Tests.{eq-eqb, ne-eqb}
-use Rattle.messages.specs.Table.{patternFits}
+use Rattle.table.specs.Table.{patternFits}
 use Rattle.messages.proofs.fits_pattern.Statement.{statement}
 use Rattle.messages.proofs.fits_pattern.Tie as tie
 

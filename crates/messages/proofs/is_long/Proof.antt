@@ -1,7 +1,7 @@
 use mathlib.Core.Path.{_≡_, refl, sym, ap, _∙_}
 use native.Mathlib.Omega.{arith}
 use borrow.Author.Needs.{needs}
-use Rattle.messages.specs.Table.{havePoints, followsRight}
+use Rattle.table.specs.Table.{havePoints, followsRight}
 use Rattle.messages.proofs.is_long.Statement.{statement}
 use Rattle.messages.proofs.is_long.Tie as tie
 

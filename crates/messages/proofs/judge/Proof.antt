@@ -1,7 +1,7 @@
 use mathlib.Core.Path.{_≡_, refl, sym, ap, ap₂, _∙_}
 use mathlib.Core.List.{List}
 use Prim.Native.Nat.{ℕ}
-use Rattle.messages.specs.declared.table.Named.{Named}
+use Rattle.table.specs.declared.Named.{Named}
 use Rattle.messages.specs.Asked.{askedOf, judged, askedRows}
 use Rattle.messages.proofs.Shapes.{shaped}
 use Rattle.messages.proofs.Judged.{same-judged}

@@ -12,8 +12,8 @@ use Rattle.kinds.specs.declared.Kind.{Kind}
 use Rattle.kinds.specs.Kinds.{kindOf}
 use Rattle.kinds.proofs.Known.{sized}
 use Rattle.points.proofs.Parts.{all-drop}
-use Rattle.messages.specs.declared.table.Message.{Message}
-use Rattle.messages.specs.Table.{fieldsOf, programIn, startIn, countIn, restIn, followsRight, havePoints}
+use Rattle.table.specs.declared.Message.{Message}
+use Rattle.table.specs.Table.{fieldsOf, programIn, startIn, countIn, restIn, followsRight, havePoints}
 use Rattle.messages.specs.Asked.{notDigits, countZero, notHeld, wrongPattern}
 use Rattle.messages.proofs.Judged.{points-written, filled, same-long, same-none, same-beyond, same-unfit, same-fills, same-order, at-102, too-short, at-103, at-104, at-105, at-106, at-107, at-order}
 use borrow.Author.Needs.{needs}

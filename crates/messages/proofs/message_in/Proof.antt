@@ -1,7 +1,7 @@
 use mathlib.Core.Path.{_≡_, refl, sym, ap, _∙_}
 use lib.ListN.{take, drop}
 use Rattle.digits.proofs.Fields.{is-number, not-digits}
-use Rattle.messages.specs.Table.{messageOf}
+use Rattle.table.specs.Table.{messageOf}
 use borrow.Author.Needs.{needs}
 use Rattle.messages.proofs.message_in.Statement.{statement}
 use Rattle.messages.proofs.message_in.Tie as tie

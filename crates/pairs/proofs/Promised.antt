@@ -1,8 +1,8 @@
 -- The law of specs/Laws.antt.
 use Prim.Native.Nat.{ℕ}
 use mathlib.Core.List.{List}
-use Rattle.areas.specs.Laws.{EveryDigit}
-use Rattle.areas.proofs.Paired.{digits-back}
+use Rattle.pairs.specs.Laws.{EveryDigit}
+use Rattle.pairs.proofs.Paired.{digits-back}
 
 pub every-digit : (s : List ℕ) → EveryDigit s
 every-digit s pairs e a = digits-back pairs s e a

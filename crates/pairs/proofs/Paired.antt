@@ -10,7 +10,7 @@ use lib.ListN.{length, take, drop, getD, length-append}
 use lib.Seq.{take-suc}
 use Rattle.digits.specs.Digits.{isDigit, worthOf, allDigits, numberOf, digitsOf}
 use Rattle.digits.proofs.Inverse.{inverse, and-left, and-right}
-use Rattle.areas.specs.Pairs.{bytesIn, digitsIn}
+use Rattle.pairs.specs.Pairs.{bytesIn, digitsIn}
 
 pub length-bytesIn : (k : ℕ) (s : List ℕ) → length s ≡ 2 * k → length (bytesIn s) ≡ k
 length-bytesIn zero [] e = refl

@@ -5,7 +5,7 @@ use mathlib.Core.Bool.{true}
 use mathlib.Core.List.{List}
 use lib.ListN.{length}
 use Rattle.digits.specs.Digits.{allDigits}
-use Rattle.areas.specs.Pairs.{bytesIn, digitsIn}
+use Rattle.pairs.specs.Pairs.{bytesIn, digitsIn}
 
 -- Demand 2, codes "survive writing and reading back with every digit": pairs of digits, as bytes and back, are the very digits
 abbrev pub EveryDigit : List ℕ → Type 0

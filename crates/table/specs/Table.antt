@@ -11,13 +11,13 @@ use Rattle.frames.specs.Frame.{messageIn}
 use Rattle.kinds.specs.declared.Held.{Held}
 use Rattle.kinds.specs.Kinds.{pointsTag, columnsTag, kindOf}
 use Rattle.points.specs.Point.{lengthOf, fillsOf}
-use Rattle.messages.specs.declared.table.Follows.{Follows}
-use Rattle.messages.specs.declared.table.Follows.the-variants.{Nothing, TenBytes, AxisPattern, Points, RunBytes}
-use Rattle.messages.specs.declared.table.Action.{Action}
-use Rattle.messages.specs.declared.table.Action.the-variants.{SayBack, CountPoints, ListPoints, ReadRun, AxisStatus, WritePoints, ClearRun, ChangeRun}
-use Rattle.messages.specs.declared.table.Message.{Message}
-use Rattle.messages.specs.declared.table.Named.{Named}
-use Rattle.messages.specs.declared.table.Named.the-variants.{Known, Unknown}
+use Rattle.table.specs.declared.Follows.{Follows}
+use Rattle.table.specs.declared.Follows.the-variants.{Nothing, TenBytes, AxisPattern, Points, RunBytes}
+use Rattle.table.specs.declared.Action.{Action}
+use Rattle.table.specs.declared.Action.the-variants.{SayBack, CountPoints, ListPoints, ReadRun, AxisStatus, WritePoints, ClearRun, ChangeRun}
+use Rattle.table.specs.declared.Message.{Message}
+use Rattle.table.specs.declared.Named.{Named}
+use Rattle.table.specs.declared.Named.the-variants.{Known, Unknown}
 
 -- a row: ID; how many digits program number, start number and count have, 0 where it has none; the tag of the kind that it names; what follows
 -- these fields; what it has the board do; whether the reply repeats the fields

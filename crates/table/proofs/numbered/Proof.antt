@@ -1,9 +1,9 @@
 use borrow.Author.Needs.{needs}
 use mathlib.Core.Path.{_∙_}
 use borrow.Author.Tests.{ne-eqb}
-use Rattle.messages.specs.Table.{messageNumbered}
-use Rattle.messages.proofs.table.numbered.Statement.{statement}
-use Rattle.messages.proofs.table.numbered.Tie as tie
+use Rattle.table.specs.Table.{messageNumbered}
+use Rattle.table.proofs.numbered.Statement.{statement}
+use Rattle.table.proofs.numbered.Tie as tie
 
 plain-requires : tie.Need-plain-requires
 plain-requires c κs = search needs

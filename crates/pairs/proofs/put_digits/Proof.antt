@@ -5,12 +5,12 @@ use lib.ListN.{length, take, drop, getD, set, replicate, length-replicate, getD-
 use borrow.Author.Needs.{needs}
 use mathlib.Core.List.{List}
 use lib.Seq.{length-take-le, take-all}
-use Rattle.areas.specs.Pairs.{digitsIn}
+use Rattle.pairs.specs.Pairs.{digitsIn}
 use Rattle.digits.specs.Laid.{laid}
 use Rattle.digits.proofs.Laid.{laid-on, laid-nothing}
-use Rattle.areas.proofs.Paired.{digitsIn-more, length-digitsIn}
-use Rattle.areas.proofs.pairs.put_digits.Statement.{statement}
-use Rattle.areas.proofs.pairs.put_digits.Tie as tie
+use Rattle.pairs.proofs.Paired.{digitsIn-more, length-digitsIn}
+use Rattle.pairs.proofs.put_digits.Statement.{statement}
+use Rattle.pairs.proofs.put_digits.Tie as tie
 
 abbrev Inv-loop : tie.InvT-loop
 Inv-loop reply₀ at bytes i₀ reply i = (i ≤ length bytes) × (reply ≡ laid reply₀ at (digitsIn (take i bytes))) × (length reply ≡ length reply₀)

@@ -3,8 +3,8 @@ use kinds::Kind;
 ghost use mathlib.Core.Path.{_≡_};
 ghost use mathlib.Core.Bool.{false};
 ghost use Rattle.kinds.specs.Kinds.{pointsTag};
-ghost use Rattle.messages.specs.declared.table.Named.the-variants.{Known};
-ghost use Rattle.messages.specs.Table.{row, messageNumbered};
+ghost use Rattle.table.specs.declared.Named.the-variants.{Known};
+ghost use Rattle.table.specs.Table.{row, messageNumbered};
 
 // What follows the fields of a content.
 pub enum Follows {

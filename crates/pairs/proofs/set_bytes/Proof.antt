@@ -1,8 +1,8 @@
 use native.Mathlib.Omega.{arith}
 use Rattle.areas.proofs.Moves.{part-back}
 use borrow.Author.Needs.{needs}
-use Rattle.areas.proofs.pairs.set_bytes.Statement.{statement}
-use Rattle.areas.proofs.pairs.set_bytes.Tie as tie
+use Rattle.pairs.proofs.set_bytes.Statement.{statement}
+use Rattle.pairs.proofs.set_bytes.Tie as tie
 
 sub-put-pairs : tie.Need-sub-put-pairs
 sub-put-pairs c = search needs

@@ -3,12 +3,12 @@ use mathlib.Core.Path.{_≡_, refl, sym, ap, _∙_}
 use native.Mathlib.Omega.{arith}
 use lib.ListN.{length, take, drop, getD, set, replicate, length-replicate, getD-replicate, length-drop}
 use borrow.Author.Needs.{needs}
-use Rattle.areas.specs.Pairs.{bytesIn}
+use Rattle.pairs.specs.Pairs.{bytesIn}
 use Rattle.areas.proofs.Moves.{Laying, laying-first, laying-front, laying-done}
-use Rattle.areas.proofs.Paired.{length-bytesIn, byte-at}
+use Rattle.pairs.proofs.Paired.{length-bytesIn, byte-at}
 use Rattle.digits.specs.Digits.{worthOf}
-use Rattle.areas.proofs.pairs.put_pairs.Statement.{statement}
-use Rattle.areas.proofs.pairs.put_pairs.Tie as tie
+use Rattle.pairs.proofs.put_pairs.Statement.{statement}
+use Rattle.pairs.proofs.put_pairs.Tie as tie
 
 abbrev Inv-loop : tie.InvT-loop
 Inv-loop area₀ digits many pair₀ area pair = Laying area₀ (bytesIn digits) 0 pair area

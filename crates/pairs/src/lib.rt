@@ -1,10 +1,11 @@
+// One byte for each pair of digits, and back (document 01, "Each message", 24EH and 210H).
 ghost use mathlib.Core.Path.{_≡_};
 ghost use mathlib.Core.Bool.{true};
 ghost use Prim.Native.Nat.{_+_, _*_, _≤_};
 ghost use lib.ListN.{length};
 ghost use Rattle.digits.specs.Digits.{allDigits};
 ghost use Rattle.digits.specs.Laid.{laid};
-ghost use Rattle.areas.specs.Pairs.{bytesIn, digitsIn};
+ghost use Rattle.pairs.specs.Pairs.{bytesIn, digitsIn};
 
 // One byte for each pair of digits, at the front of an area.
 fn put_pairs(area: &mut [u8], digits: &[u8], many: usize)

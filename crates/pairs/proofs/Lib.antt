@@ -1,0 +1,2 @@
+pub mod Paired
+pub mod Promised
