@@ -22,10 +22,11 @@ use Rattle.calls.specs.Calls.{Areas, Call, lengthsOf}
 unfoldable pub pointsFit : ℕ → Bool
 pointsFit points = eqb (points % 40) 0 && (leb 40 points && leb points 60000)
 
--- 4: the journal's length ("an area of 40·N+300 to 65,536 bytes"), the used length, and "whole well-formed entries"
+-- the least journal of a board that holds so much ("Journal": "an area of 40·N+300 to 65,536 bytes")
 abbrev pub leastJournal : Held → ℕ
 leastJournal held = 40 * held .points + 300
 
+-- 4: the journal's length, the used length, and "whole well-formed entries"
 unfoldable pub journalFits : Held → List ℕ → ℕ → Bool
 journalFits held journal used =
     leb (leastJournal held) (length journal)
