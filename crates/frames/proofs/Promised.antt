@@ -28,7 +28,7 @@ says-digits s n l h = (there, back)
     back : s ≡ digitsOf 2 n → saysNumber s n ≡ true
     back e = rw (e, inverse 2 .are-digits n) (eq-eqb _ n (inverse 2 .value-of-digits n h))
 
-pub true-sc : (frame : List ℕ) → 4 ≤ length frame → TrueSC frame
+pub true-sc : (frame : List ℕ) → TrueSC frame
 unfolding sumTrue
 true-sc frame h =
     let k : 2 ≤ length (drop (length frame - 4) frame) = simp length-drop (omega arith) in

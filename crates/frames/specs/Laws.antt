@@ -1,5 +1,5 @@
 -- What is promised of sums and replies, over all bytes. The proofs are in proofs/Promised.antt.
-use Prim.Native.Nat.{ℕ, _+_}
+use Prim.Native.Nat.{ℕ, _+_, _≤_}
 use mathlib.Core.Path.{_≡_}
 use mathlib.Core.Logic.{_↔_}
 use mathlib.Core.Bool.{true, false}
@@ -8,9 +8,9 @@ use lib.ListN.{length, drop, getD}
 use Rattle.digits.specs.Digits.{digitsOf}
 use Rattle.frames.specs.Frame.{stationIn, beforeSC, scIn, scOf, sumTrue, sumOff, replyOf, CR, LF}
 
--- Frame: "SC is the low byte of the sum of all bytes before it, as two digits": an SC is true just where its two bytes are those digits
+-- Frame: "SC is the low byte of the sum of all bytes before it, as two digits": in four bytes or more, an SC is true just where its two bytes are those digits
 abbrev pub TrueSC : List ℕ → Type 0
-TrueSC frame = (sumTrue frame ≡ true) ↔ (scIn frame ≡ scOf (beforeSC frame))
+TrueSC frame = 4 ≤ length frame → (sumTrue frame ≡ true) ↔ (scIn frame ≡ scOf (beforeSC frame))
 
 -- Frame: "Replies start '#', or '&' for an error, and always carry a true SC", never '@@'
 pub record Reply (header station : ℕ) (rest : List ℕ) : Type 0 where

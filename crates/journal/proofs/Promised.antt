@@ -1,5 +1,5 @@
 -- The laws of specs/Laws.antt.
-use Prim.Native.Nat.{ℕ, _+_, _-_, _*_, _<_, _≤_}
+use Prim.Native.Nat.{ℕ, _+_, _-_, _<_, _≤_}
 use mathlib.Core.Path.{_≡_, refl, sym, ap, _∙_}
 use mathlib.Core.Bool.{Bool, true, false}
 use mathlib.Core.List.{List, [], _∷_, _++_}
@@ -7,12 +7,11 @@ use native.Mathlib.Omega.{arith}
 use lib.ListN.{length, length-append}
 use lib.Dec.{leb}
 use borrow.Author.Tests.{leb-true, leb-false}
-use Rattle.kinds.specs.declared.Kind.{Kind}
 use Rattle.kinds.specs.declared.Held.{Held}
-use Rattle.kinds.specs.Kinds.{placeOf, runOf, put}
+use Rattle.kinds.specs.Kinds.{runOf, put}
 use Rattle.kinds.proofs.Promised.{run}
 use Rattle.journal.specs.Journal.{Entry, encode, encodes, kept, added, lastOf, othersOf, lastEntry, others, puts, entryFor}
-use Rattle.journal.specs.Laws.{ReadBack, Encoding, Newest, Undone}
+use Rattle.journal.specs.Laws.{ReadBack, Encoding, Newest, EveryUndone}
 use Rattle.journal.proofs.Codec as codec
 use Rattle.journal.proofs.Keeping.{kept-all, kept-fewer}
 use Rattle.journal.proofs.Fitting.{puts-own}
@@ -80,8 +79,7 @@ unfolding others othersOf
 others-added [] x = refl
 others-added (e ∷ es) x = others-snoc e es x
 
-pub undone : (size : ℕ) (k : Kind) (start count : ℕ) (new area : List ℕ) (es : List Entry)
-    → length new ≡ count * k .unit → placeOf k start + length new ≤ length area → Undone size k start count new area es
+pub undone : EveryUndone
 unfolding added
 undone size k start count new area es e h =
     let x : Entry = entryFor (k .tag) start (runOf k start count area) in

@@ -1,5 +1,5 @@
 -- What is promised of the journal. The proofs are in proofs/Promised.antt.
-use Prim.Native.Nat.{ℕ, _+_, _-_, _<_, _≤_}
+use Prim.Native.Nat.{ℕ, _+_, _-_, _*_, _<_, _≤_}
 use mathlib.Core.Path.{_≡_}
 use mathlib.Core.Bool.{true}
 use mathlib.Core.List.{List, [], _∷_, _++_}
@@ -7,7 +7,7 @@ use lib.ListN.{length, take, drop, getD}
 use Rattle.kinds.specs.declared.Kind.{Kind}
 use Rattle.kinds.specs.declared.Held.{Held}
 use Rattle.journal.specs.declared.Last.{Last}
-use Rattle.kinds.specs.Kinds.{kindOf, runOf, put}
+use Rattle.kinds.specs.Kinds.{kindOf, placeOf, runOf, put}
 use Rattle.journal.specs.Journal.{Entry, encode, encodes, entryFits, whole, entriesIn, kept, added, areaOf, lastEntry, others, puts, entryFor}
 
 -- what an add, and a step back, leave of the journal: every byte, and the used length that is handed on
@@ -55,3 +55,9 @@ pub record Undone (size : ℕ) (k : Kind) (start count : ℕ) (new area : List �
   pub others-kept :
       others (added size es (entryFor (k .tag) start (runOf k start count area)))
       ≡ kept (size - length (encode (entryFor (k .tag) start (runOf k start count area)))) es
+
+-- "Journal": so it is for new bytes that are so many things of the kind, and fit into the area from there on
+abbrev pub EveryUndone : Type 0
+EveryUndone =
+    (size : ℕ) (k : Kind) (start count : ℕ) (new area : List ℕ) (es : List Entry) → length new ≡ count * k .unit
+    → placeOf k start + length new ≤ length area → Undone size k start count new area es

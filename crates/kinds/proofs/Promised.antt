@@ -1,15 +1,11 @@
 -- The law of specs/Laws.antt.
-use Prim.Native.Nat.{ℕ, _+_, _*_, _≤_}
-use mathlib.Core.Path.{_≡_}
-use mathlib.Core.List.{List}
+use Prim.Native.Nat.{_*_}
 use native.Mathlib.Omega.{arith}
-use lib.ListN.{length}
 use Rattle.digits.proofs.Laid.{part-laid, laid-back, length-laid, before-laid, beyond-laid}
-use Rattle.kinds.specs.declared.Kind.{Kind}
 use Rattle.kinds.specs.Kinds.{runOf, put, placeOf}
-use Rattle.kinds.specs.Laws.{Run}
+use Rattle.kinds.specs.Laws.{EveryRun}
 
-pub run : (k : Kind) (start count : ℕ) (bytes area : List ℕ) → length bytes ≡ count * k .unit → placeOf k start + length bytes ≤ length area → Run k start count bytes area
+pub run : EveryRun
 unfolding runOf put
 run k start count bytes area e h =
     let at = placeOf k start in

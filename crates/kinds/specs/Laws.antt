@@ -1,5 +1,5 @@
 -- What is promised of runs of a kind. The proof is in proofs/Promised.antt.
-use Prim.Native.Nat.{ℕ, _+_, _<_, _≤_}
+use Prim.Native.Nat.{ℕ, _+_, _*_, _<_, _≤_}
 use mathlib.Core.Path.{_≡_}
 use mathlib.Core.List.{List}
 use lib.ListN.{length, getD}
@@ -13,3 +13,9 @@ pub record Run (k : Kind) (start count : ℕ) (bytes area : List ℕ) : Type 0 w
   pub as-long : length (put k start bytes area) ≡ length area
   pub outside-before : (i : ℕ) → i < placeOf k start → getD (put k start bytes area) i 0 ≡ getD area i 0
   pub outside-behind : (i : ℕ) → placeOf k start + length bytes ≤ i → getD (put k start bytes area) i 0 ≡ getD area i 0
+
+-- "The areas": so it is for bytes that are so many things of the kind, and fit into the area from there on
+abbrev pub EveryRun : Type 0
+EveryRun =
+    (k : Kind) (start count : ℕ) (bytes area : List ℕ) → length bytes ≡ count * k .unit → placeOf k start + length bytes ≤ length area
+    → Run k start count bytes area

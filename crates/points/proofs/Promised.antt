@@ -16,12 +16,10 @@ use Rattle.digits.specs.Digits.{digitsOf, allDigits, numberOf}
 use Rattle.digits.proofs.Inverse.{inverse}
 use Rattle.areas.specs.Bytes.{fourOf, fourAt}
 use Rattle.points.specs.declared.units.Position.{Position}
-use Rattle.points.specs.declared.point.Point.{Point}
 use Rattle.points.specs.Units.{position, acceleration, speed}
 use Rattle.points.specs.Axes.{axesFrom, axesOf}
 use Rattle.points.specs.Point.{zeroPoint, positionOf, positionsOf, pointOf, lengthOf, positionBytes, slotOf, positionsIn, pointIn, positionDigits, pointDigits}
-use Rattle.points.specs.Laws.{AllFit, Slot, ZeroSlot, EveryDigit}
-use Rattle.points.specs.Laws as laws
+use Rattle.points.specs.Laws.{AllFit, EverySlot, ZeroSlot, EveryDigit}
 use Rattle.points.proofs.Parts.{all-take, all-drop}
 use Rattle.points.proofs.Slotted.{length-slot, length-positionsOf}
 
@@ -34,7 +32,7 @@ positions-back (p ∷ ps) f =
     let e : fourAt (fourOf x ++ positionBytes ps) 0 ≡ x = omega arith in
     ap₂ (λ (q : Position) (qs : List Position). q ∷ qs) (ap position (ap (toZ w32) e ∙ toZ-ofZ (f .0))) (positions-back ps (f .1))
 
-pub slot : (p : Point) → laws.Fits p → Slot p
+pub slot : EverySlot
 unfolding slotOf pointIn
 slot p f =
     let ps : positionsIn 8 (positionBytes (p .positions)) ≡ p .positions = ap (λ (n : ℕ). positionsIn n (positionBytes (p .positions))) (sym (f .axes)) ∙ positions-back (p .positions) (f .positions) in

@@ -30,6 +30,10 @@ pub record Slot (p : Point) : Type 0 where
   pub bytes : length (slotOf p) ≡ 40
   pub read-back : pointIn (slotOf p) ≡ p
 
+-- "One slot of 40 bytes": so it is for every point whose fields fit
+abbrev pub EverySlot : Type 0
+EverySlot = (p : Point) → Fits p → Slot p
+
 -- "sets the named slots to zero": a slot of zero bytes is the zero point's
 abbrev pub ZeroSlot : Type 0
 ZeroSlot = slotOf zeroPoint ≡ replicate 40 0
