@@ -13,7 +13,9 @@ pub record Cases : Type 0 where
   pub wrong : sumPasses (text "!9920900100555\r\n") ≡ false
   pub off : sumPasses (text "!99209001005@@\r\n") ≡ true
   -- Run and compared: SC 5a for 5A is refused (test 7)
-  pub capital : sumPasses (text "!9920900100B5A\r\n") ≡ false
+  pub capital-sum : sumOf (text "!99209001029") ≡ 0x25A
+  pub capital : sumPasses (text "!992090010295A\r\n") ≡ true
+  pub small : sumPasses (text "!992090010295a\r\n") ≡ false
   -- Bench listing: the frames are shaped and for station 99H; the error reply to the third
   pub bench : shaped (text "!99200001234567829\r\n") ≡ true
   pub ours : stationPasses 0x99 (text "!99200001234567829\r\n") ≡ true
