@@ -1,3 +1,4 @@
 pub mod Patterns
 pub mod Judged
 pub mod Shapes
+pub mod Promised
