@@ -1,16 +1,19 @@
--- What an accepted frame tells, and that the call after it is heard.
-use Prim.Native.Nat.{ℕ, zero, suc, _+_, _≤_}
+-- What an accepted frame tells, and that what is asked over areas that no test refuses is heard.
+use Prim.Native.Nat.{ℕ, _+_, _≤_, _<_, _^_}
 use mathlib.Core.Path.{_≡_, refl, sym, ap, ap₂, _∙_, subst}
 use mathlib.Core.Bool.{Bool, true, false}
-use mathlib.Core.List.{List, [], _∷_}
+use mathlib.Core.List.{List, _++_}
+use native.Mathlib.Nat.{one-le-pow}
 use native.Mathlib.Omega.{arith}
-use lib.ListN.{length, take, drop, length-drop}
-use lib.Seq.{length-take-le, take-take}
-use borrow.Author.Tests.{le-ltb, le-leb, eq-eqb}
-use Rattle.digits.specs.Digits.{numberOf}
-use Rattle.digits.specs.Laid.{laid}
-use Rattle.digits.proofs.Laid.{length-laid}
+use lib.Dec.{leb}
+use lib.ListN.{length, take, drop, length-append, length-drop}
+use lib.Seq.{length-take-le, take-all, take-take, take-at, drop-at, drop-drop}
+use borrow.Author.Tests.{le-ltb, le-leb, eq-eqb, ne-eqb}
+use Rattle.digits.specs.Digits.{digitsOf, allDigits, numberOf}
+use Rattle.digits.proofs.Inverse.{inverse, all-append}
 use Rattle.frames.specs.Frame.{normal, replyOf}
+use Rattle.frames.proofs.Bools.{and-false}
+use Rattle.kinds.specs.declared.Held.{Held}
 use Rattle.points.proofs.Parts.{all-take}
 use Rattle.table.specs.declared.Follows.{Follows}
 use Rattle.table.specs.declared.Follows.the-variants.{Nothing}
@@ -20,19 +23,20 @@ use Rattle.table.specs.declared.Named.{Named}
 use Rattle.table.specs.declared.Named.the-variants.{Known}
 use Rattle.messages.specs.declared.Asked.{Asked}
 use Rattle.messages.specs.declared.Asked.the-variants.{Order}
-use Rattle.table.specs.Table.{row, messageOf, fieldsOf, startIn, countIn, anyBytes}
+use Rattle.table.specs.Table.{row, messageOf, fieldsOf, programIn, startIn, countIn, anyBytes}
 use Rattle.messages.specs.Asked.{askedOf, judged, numberGiven}
 use Rattle.messages.proofs.Judged.{Right, told, ordered}
-use Rattle.kinds.specs.declared.Lengths.{Lengths}
-use Rattle.kinds.specs.Kinds.{heldIn}
-use Rattle.calls.specs.Calls.{Call, Outcome, lengthsOf}
-use Rattle.refusals.specs.Refusals.{journalFits, silentOf}
-use Rattle.refusals.proofs.Rows.{AreasPass, call-passed, silent-is, past-silent}
+use Rattle.kinds.specs.Kinds.{kindOf, heldIn, holds}
+use Rattle.calls.specs.Calls.{Areas, Sent, Call, Outcome, callOf, lengthsOf}
+use Rattle.refusals.specs.Refusals.{silentOf}
+use Rattle.refusals.proofs.Rows.{AreasPass, silent-is, past-silent}
 use Rattle.link.specs.Answer.{held, asked, saidBy, textOf, areasAfter, answerOf}
 use Rattle.link.proofs.Answering.{heard-answer, accepted}
-use Rattle.link.proofs.Carrying.{fine, Judged, judged-so}
-use Rattle.demands.specs.Survive.{content, startOf, countOf, commandOf, nextCall, Says}
-use Rattle.demands.proofs.Commands.{Heard, heard, station-byte, messageNamed, message-of}
+use Rattle.link.proofs.Carrying.{Judged, judged-so}
+use Rattle.demands.specs.History.{ours}
+use Rattle.demands.specs.Reading.{content, startOf, countOf, commandOf, Host, asking, Says}
+use Rattle.demands.proofs.Commands.{Heard, heard, messageNamed, message-of}
+use Rattle.demands.proofs.Parts.{same-part}
 
 -- the order of a message over a content
 abbrev pub orderOf : Message → List ℕ → Asked
@@ -41,103 +45,97 @@ orderOf m s = Order m (startIn m s) (countIn m s)
 -- an accepted frame passed every test, and orders what its message does
 pub record Took (m : Message) (c : Call) : Type 0 where
   pub heard : silentOf c ≡ 0
-  pub right : Right (held c) (c .sent .settings .fitted) m (content c)
-  pub assured : Judged (held c) (content c) m (startOf m c) (countOf m c)
-  pub answer : answerOf c ≡ record { number = 0; text = textOf c (orderOf m (content c)); areas = areasAfter c (orderOf m (content c)) }
+  pub right : Right (held c) (c .sent .settings .fitted) m (content (c .sent))
+  pub assured : Judged (held c) (content (c .sent)) m (startOf m (c .sent)) (countOf m (c .sent))
+  pub order : asked c ≡ orderOf m (content (c .sent))
+  pub answer : answerOf c ≡ record { number = 0; text = textOf c (orderOf m (content (c .sent))); areas = areasAfter c (orderOf m (content (c .sent))) }
+
+-- what the tests of a frame assure, on a board that holds so much
+pub record Ordered (h : Held) (m : Message) (s : Sent) : Type 0 where
+  pub right : Right h (s .settings .fitted) m (content s)
+  pub assured : Judged h (content s) m (startOf m s) (countOf m s)
+
+-- a frame that is ordered so has passed them, and orders what its own message reads in its content
+pub ordered-so : (h : Held) (s : Sent) (m : Message) → messageOf (s .frame) ≡ Known m → {m′ : Message} {start count : ℕ}
+    → askedOf h (s .settings .fitted) (s .frame) ≡ Order m′ start count → Ordered h m s × (askedOf h (s .settings .fitted) (s .frame) ≡ orderOf m (content s))
+unfolding askedOf
+ordered-so h s m known {m′} {start} {count} e =
+    let f = s .settings .fitted in
+    let t = told h f (messageOf (s .frame)) (content s) m′ start count e in
+    let same : m′ ≡ m = let k = t .message in cc in
+    let r : Right h f m (content s) = subst (λ (x : Message). Right h f x (content s)) same (t .rows) in
+    let o : judged h f (messageOf (s .frame)) (content s) ≡ orderOf m (content s) = ap (λ (n : Named). judged h f n (content s)) known ∙ ordered h f m (content s) r in
+    (record { right = r; assured = judged-so h f (s .frame) m (startOf m s) (countOf m s) o }, o)
 
 -- its number alone tells all that
 pub took : (m : Message) (c : Call) → messageOf (c .sent .frame) ≡ Known m → answerOf c .number ≡ 0 → Took m c
-unfolding askedOf
 took m c known number =
     let a = accepted c number in
-    let h = held c in
-    let f = c .sent .settings .fitted in
-    let t = told h f (messageOf (c .sent .frame)) (content c) (a .message) (a .start) (a .count) (a .order) in
-    let same : a .message ≡ m = let k = t .message in cc in
-    let r : Right h f m (content c) = subst (λ (x : Message). Right h f x (content c)) same (t .rows) in
-    let o : asked c ≡ orderOf m (content c) = ap (λ (n : Named). judged h f n (content c)) known ∙ ordered h f m (content c) r in
+    let o = ordered-so (held c) (c .sent) m known (a .order) in
     record {
       heard = a .heard;
-      right = r;
-      assured = judged-so h f (c .sent .frame) m (startOf m c) (countOf m c) o;
-      answer = heard-answer c (a .heard) ∙ ap (λ (x : Asked). record { number = numberGiven x; text = textOf c x; areas = areasAfter c x }) o;
+      right = o .0 .right;
+      assured = o .0 .assured;
+      order = o .1;
+      answer = heard-answer c (a .heard) ∙ ap (λ (x : Asked). record { number = numberGiven x; text = textOf c x; areas = areasAfter c x }) (o .1);
     }
 
--- what is left is as long as what was lent, and its journal is one that the next call takes
-pub record Lasting (c : Call) : Type 0 where
-  pub lengths : lengthsOf (answerOf c .areas) ≡ lengthsOf (c .areas)
-  pub journal : journalFits (held c) (answerOf c .areas .journal) (answerOf c .areas .kept .used) ≡ true
-  pub text-long : length (answerOf c .text) ≤ 1024
+-- areas that no test of them refuses
+abbrev pub Open : Areas → Type 0
+Open a = AreasPass (lengthsOf a) (a .journal) (a .kept)
 
--- the call after it passes every test before a reply
-pub heard-again : (c : Call) (said frame : List ℕ) → silentOf c ≡ 0 → Lasting c → Heard (c .sent .settings .station) said frame → silentOf (nextCall c frame) ≡ 0
-heard-again c said frame e l h =
-    let p = call-passed c e in
-    let next = nextCall c frame in
-    let r = fine c e .reply-long in
-    let t = l .text-long in
-    let n : length (laid (c .sent .reply) 0 (answerOf c .text)) ≡ length (c .sent .reply) = length-laid (c .sent .reply) 0 (answerOf c .text) (omega arith) in
-    silent-is next
-    ∙ past-silent (length (next .sent .reply)) frame (c .sent .axes) (c .sent .settings) (lengthsOf (next .areas)) (next .areas .journal) (next .areas .kept)
-    (record {
-      reply-long = le-ltb (length (laid (c .sent .reply) 0 (answerOf c .text))) 1024 (omega arith);
-      areas =
-          subst (λ (x : Lengths). AreasPass x (answerOf c .areas .journal) (answerOf c .areas .kept)) (sym (l .lengths))
-          (record { points = p .areas .points; columns = p .areas .columns; journal-fits = l .journal });
-      axes-fit = p .axes-fit;
-      shape = h .has-shape;
-      sum = h .has-sum;
-      station = h .has-station;
-    })
-    0
+module _ (a : Areas) (h : Sent) (frame : List ℕ) where
+  -- what a host sends over areas
+  abbrev sending : Call
+  sending = callOf frame (h .axes) (h .settings) (h .reply) a
 
--- what a heard frame asks of the board that is left
-asked-again : (c : Call) (asks frame : List ℕ) (q : Message) → Lasting c → Heard (c .sent .settings .station) asks frame → messageNamed (take 3 asks) ≡ Known q
-    → Right (held c) (c .sent .settings .fitted) q (drop 3 asks) → asked (nextCall c frame) ≡ orderOf q (drop 3 asks)
-unfolding askedOf
-asked-again c asks frame q l h e r =
-    let f = c .sent .settings .fitted in
-    ap₂ (λ (n : Named) (s : List ℕ). judged (held (nextCall c frame)) f n s) (message-of frame (take 3 asks) (h .message) ∙ e) (h .content)
-    ∙ ap (λ (x : Lengths). judged (heldIn x) f (Known q) (drop 3 asks)) (l .lengths)
-    ∙ ordered (held c) f q (drop 3 asks) r
+  -- a command of its station passes every test before a reply
+  heard-there : (asks : List ℕ) → Host h → Open a → Heard (h .settings .station) asks frame → silentOf sending ≡ 0
+  heard-there asks o p d =
+      silent-is sending
+      ∙ past-silent (length (h .reply)) frame (h .axes) (h .settings) (lengthsOf a) (a .journal) (a .kept)
+      (record {
+        reply-long = le-ltb (length (h .reply)) 1024 (o .reply-long);
+        areas = p;
+        axes-fit = o .axes-fit;
+        shape = d .has-shape;
+        sum = d .has-sum;
+        station = d .has-station;
+      })
+      0
+
+  -- and asks what it says
+  asked-there : (asks : List ℕ) (q : Message) → Heard (h .settings .station) asks frame → messageNamed (take 3 asks) ≡ Known q
+      → Right (heldIn (lengthsOf a)) (h .settings .fitted) q (drop 3 asks) → asked sending ≡ orderOf q (drop 3 asks)
+  unfolding askedOf
+  asked-there asks q d e r =
+      ap₂ (λ (n : Named) (s : List ℕ). judged (heldIn (lengthsOf a)) (h .settings .fitted) n s) (message-of frame (take 3 asks) (d .message) ∙ e) (d .content)
+      ∙ ordered (heldIn (lengthsOf a)) (h .settings .fitted) q (drop 3 asks) r
 
 -- asked so, the board accepts and says what its order does
-pub says : (c : Call) (asks said : List ℕ) (q : Message) → silentOf c ≡ 0 → Lasting c → 3 ≤ length asks → length asks ≤ 1016
-    → messageNamed (take 3 asks) ≡ Known q → Right (held c) (c .sent .settings .fitted) q (drop 3 asks)
-    → ((frame : List ℕ) → saidBy (q .does) (nextCall c frame) q (startIn q (drop 3 asks)) (countIn q (drop 3 asks)) ≡ said)
-    → Says c asks said
-says c asks said q z l least most e r t =
+pub says : (a : Areas) (asks said : List ℕ) (q : Message) → Open a → 3 ≤ length asks → length asks ≤ 1016 → messageNamed (take 3 asks) ≡ Known q
+    → ((fitted : ℕ) → Right (heldIn (lengthsOf a)) fitted q (drop 3 asks))
+    → ((h : Sent) (frame : List ℕ) → saidBy (q .does) (sending a h frame) q (startIn q (drop 3 asks)) (countIn q (drop 3 asks)) ≡ said)
+    → Says ours a asks said
+says a asks said q p least most e r t =
     record {
-      number = λ b. ap (λ (o : Outcome). o .number) (heard-answer (next b) (again b)) ∙ ap numberGiven (order b);
-      text = λ b.
-          ap (λ (o : Outcome). o .text) (heard-answer (next b) (again b)) ∙ ap (textOf (next b)) (order b)
-          ∙ ap (replyOf normal (c .sent .settings .station)) (t (frame b));
+      number = λ h o b. ap (λ (x : Outcome). x .number) (heard-answer (asking a h b asks) (again h o b)) ∙ ap numberGiven (order h o b);
+      text = λ h o b.
+          ap (λ (x : Outcome). x .text) (heard-answer (asking a h b asks) (again h o b)) ∙ ap (textOf (asking a h b asks)) (order h o b)
+          ∙ ap (replyOf normal (h .settings .station)) (t h (frame h b));
     }
   where
-    station : ℕ
-    station = c .sent .settings .station
+    frame : Sent → Bool → List ℕ
+    frame h b = commandOf b (h .settings .station) asks
 
-    frame : Bool → List ℕ
-    frame b = commandOf b station asks
+    is : (h : Sent) → Host h → (b : Bool) → Heard (h .settings .station) asks (frame h b)
+    is h o b = heard b (h .settings .station) asks (o .station-byte) least most
 
-    next : Bool → Call
-    next b = nextCall c (frame b)
+    again : (h : Sent) → Host h → (b : Bool) → silentOf (asking a h b asks) ≡ 0
+    again h o b = heard-there a h (frame h b) asks o p (is h o b)
 
-    is : (b : Bool) → Heard station asks (frame b)
-    is b = heard b station asks (station-byte station (c .sent .frame) (fine c z .frame-long) (call-passed c z .station)) least most
-
-    again : (b : Bool) → silentOf (next b) ≡ 0
-    again b = heard-again c asks (frame b) z l (is b)
-
-    order : (b : Bool) → asked (next b) ≡ orderOf q (drop 3 asks)
-    order b = asked-again c asks (frame b) q l (is b) e r
-
--- a part of a front is that part of the whole
-pub same-part : (n at front : ℕ) (s : List ℕ) → at + n ≤ front → take n (drop at (take front s)) ≡ take n (drop at s)
-same-part n zero front s h = take-take n front s (omega arith)
-same-part n (suc at) zero s h = absurd (omega arith)
-same-part n (suc at) (suc front) [] h = refl
-same-part n (suc at) (suc front) (x ∷ s) h = same-part n at front s (omega arith)
+    order : (h : Sent) → Host h → (b : Bool) → asked (asking a h b asks) ≡ orderOf q (drop 3 asks)
+    order h o b = asked-there a h (frame h b) asks q (is h o b) e (r (h .settings .fitted))
 
 -- a message of any kind, and a query with the same fields and nothing behind them; the fields of what was sent to the one say the same to the other
 module _ (id id′ program start count tag : ℕ) (follows : Follows) (does does′ : Action) (repeats repeats′ : Bool) where
@@ -155,17 +153,78 @@ module _ (id id′ program start count tag : ℕ) (follows : Follows) (does does
     same-count = ap numberOf (same-part count (program + start) (fieldsOf sent) s (omega arith))
 
   -- such a query passes the tests that the message passed
-  pub query-right : (c : Call) → Took sent c → anyBytes follows ≡ false → Right (held c) (c .sent .settings .fitted) query (take (fieldsOf sent) (content c))
-  query-right c t any =
-      let s = content c in
-      let r = t .right in
-      let n : length (take (fieldsOf sent) s) ≡ fieldsOf sent = length-take-le (fieldsOf sent) s (t .assured .fields) in
-      let z : length (drop (fieldsOf sent) (take (fieldsOf sent) s)) ≡ 0 = simp length-drop (omega arith) in
+  pub query-right : (h : Held) (s : Sent) → Ordered h sent s → anyBytes follows ≡ false → (fitted : ℕ) → Right h fitted query (take (fieldsOf sent) (content s))
+  query-right h s o any fitted =
+      let t = content s in
+      let r = o .right in
+      let n : length (take (fieldsOf sent) t) ≡ fieldsOf sent = length-take-le (fieldsOf sent) t (o .assured .fields) in
+      let z : length (drop (fieldsOf sent) (take (fieldsOf sent) t)) ≡ 0 = simp length-drop (omega arith) in
       record {
-        digits = rw (all-take (fieldsOf sent) s (t .assured .digits any));
-        long = rw (le-leb (fieldsOf sent) (length (take (fieldsOf sent) s)) (omega arith), eq-eqb _ 0 z);
-        program = rw (take-take program (fieldsOf sent) s (omega arith)) (r .program);
-        some = rw (same-count s) (r .some);
-        held-all = rw (same-start s, same-count s) (r .held-all);
+        digits = rw (all-take (fieldsOf sent) t (o .assured .digits any));
+        long = rw (le-leb (fieldsOf sent) (length (take (fieldsOf sent) t)) (omega arith), eq-eqb _ 0 z);
+        program = rw (take-take program (fieldsOf sent) t (omega arith)) (r .program);
+        some = rw (same-count t) (r .some);
+        held-all = rw (same-start t, same-count t) (r .held-all);
+        pattern = refl;
+      }
+
+-- a query whose fields are written out: program number 00, a start number and a count
+module _ (id program start count tag : ℕ) (does : Action) (repeats : Bool) (number many : ℕ) (fits : number < 16 ^ start) (few : many < 16 ^ count) where
+  abbrev asks : Message
+  asks = row id program start count tag Nothing does repeats
+
+  abbrev fields : List ℕ
+  fields = digitsOf program 0 ++ (digitsOf start number ++ digitsOf count many)
+
+  program-long : length (digitsOf program 0) ≡ program
+  program-long = inverse program .as-many 0
+
+  start-long : length (digitsOf start number) ≡ start
+  start-long = inverse start .as-many number
+
+  count-long : length (digitsOf count many) ≡ count
+  count-long = inverse count .as-many many
+
+  fields-long : length fields ≡ program + start + count
+  fields-long = simp length-append (omega (arith, program-long, start-long, count-long))
+
+  behind-program : drop program fields ≡ digitsOf start number ++ digitsOf count many
+  behind-program = drop-at (digitsOf program 0) (digitsOf start number ++ digitsOf count many) program program-long
+
+  pub start-said : startIn asks fields ≡ number
+  start-said =
+      ap (λ (s : List ℕ). numberOf (take start s)) behind-program ∙ ap numberOf (take-at (digitsOf start number) (digitsOf count many) start start-long)
+      ∙ inverse start .value-of-digits number fits
+
+  pub count-said : countIn asks fields ≡ many
+  count-said =
+      ap (λ (s : List ℕ). numberOf (take count s))
+      (sym (drop-drop start program fields) ∙ ap (drop start) behind-program ∙ drop-at (digitsOf start number) (digitsOf count many) start start-long)
+      ∙ ap numberOf (take-all count (digitsOf count many) (omega (arith, count-long)))
+      ∙ inverse count .value-of-digits many few
+
+  program-said : programIn asks fields ≡ 0
+  program-said =
+      ap numberOf (take-at (digitsOf program 0) (digitsOf start number ++ digitsOf count many) program program-long)
+      ∙ inverse program .value-of-digits 0 (one-le-pow program 16 (omega arith))
+
+  -- it passes every test where its numbers are held
+  pub asks-right : (h : Held) → 1 ≤ many → holds (kindOf h tag) number many ≡ true → (fitted : ℕ) → Right h fitted asks fields
+  asks-right h some all fitted =
+      let d : allDigits fields ≡ true =
+      rw (
+        all-append (digitsOf program 0) (digitsOf start number ++ digitsOf count many),
+        all-append (digitsOf start number) (digitsOf count many),
+        inverse program .are-digits 0,
+        inverse start .are-digits number,
+        inverse count .are-digits many,
+      ) in
+      let z : length (drop (program + start + count) fields) ≡ 0 = simp length-drop (omega (arith, fields-long)) in
+      record {
+        digits = rw d;
+        long = rw (le-leb (program + start + count) (length fields) (omega (arith, fields-long)), eq-eqb _ 0 z);
+        program = rw program-said;
+        some = rw (count-said, ne-eqb many 0 (λ e. omega (arith, e))) (and-false (leb 1 count));
+        held-all = rw (start-said, count-said, all) (and-false (leb 1 start));
         pattern = refl;
       }

@@ -5,12 +5,13 @@ use mathlib.Core.Bool.{true}
 use mathlib.Core.List.{List, [], _∷_}
 use native.Mathlib.Omega.{arith}
 use lib.ListN.{length, getD}
-use Rattle.kinds.specs.Kinds.{columnsTag}
+use Rattle.kinds.specs.Kinds.{pointsTag, columnsTag}
 use Rattle.journal.specs.Journal.{added, lastEntry}
-use Rattle.calls.specs.Calls.{Areas}
+use Rattle.calls.specs.Calls.{Areas, Sent}
 use Rattle.demands.specs.Cases.{holding}
-use Rattle.demands.specs.History.{Conduct, Event, frame, stepBack, after, acceptedWrite, alone, entries, Holds, EveryHistory}
-use Rattle.demands.specs.Broken.{lotCode, pointOne, clearOne, unknown, smallest, small, Worked, entersNew, clears, refusalWrites, forgets, takesNothing, Broken}
+use Rattle.demands.specs.History.{Conduct, Event, frame, stepBack, after, acceptedWrite, alone, entries, account, Holds, EveryHistory}
+use Rattle.demands.specs.Broken.{lotCode, pointOne, twoPoints, clearOne, unknown, smallest, small, Worked, entersNew, clears, refusalWrites, forgets, takesNothing, Broken}
+use Rattle.demands.specs.Useless.{storesNothing, storesFirst}
 use Rattle.demands.proofs.Computing.{a-call}
 
 pub worked : Worked
@@ -32,12 +33,25 @@ abbrev due : Conduct → List Event → ℕ
 due board events = getD (alone board smallest (small board events .standing-writes) .columns) 0 0
 
 -- what a board that keeps the demand has come to
-kept-so : (board : Conduct) → EveryHistory board → (events : List Event) → Holds board (holding 1) 340 (small board events)
-kept-so board h events = h (holding 1) 340 (record { some-points = omega arith; points = omega arith }) (omega arith) (omega arith) events
+kept-so : (board : Conduct) → EveryHistory board → (events : List Event) → Holds board (holding 2) 380 (small board events)
+kept-so board h events = h (holding 2) 380 (record { some-points = omega arith; points = omega arith }) (omega arith) (omega arith) events
 
 -- a history whose first column is another
 fails : (board : Conduct) (events : List Event) (x y : ℕ) → there board events ≡ x → due board events ≡ y → (x ≡ y → ⊥) → EveryHistory board → ⊥
 fails board events x y e f k h = k (sym e ∙ ap (λ (s : List ℕ). getD s 0 0) (kept-so board h events .things columnsTag) ∙ f)
+
+-- the pattern in a slot, after one write, and what it is by the account of the standing writes
+abbrev slot-there : Conduct → Sent → ℕ → ℕ
+slot-there board s at = getD (small board (frame s ∷ []) .areas .points) at 0
+
+abbrev slot-due : Conduct → Sent → ℕ → ℕ
+slot-due board s at = getD (account (holding 2) smallest (small board (frame s ∷ []) .standing-writes) .points) at 0
+
+-- a write whose slot is another
+half-done : (board : Conduct) (s : Sent) (at : ℕ) → slot-there board s at ≡ 0 → slot-due board s at ≡ 1 → EveryHistory board → ⊥
+half-done board s at e f h =
+    let g : _≡_ {A = ℕ} 0 1 = sym e ∙ ap (λ (t : List ℕ). getD t at 0) (kept-so board h (frame s ∷ []) .whole-writes pointsTag) ∙ f in
+    omega (arith, g)
 
 -- a board that forgets, after one write; it has one entry after two
 abbrev once : Areas
@@ -52,7 +66,9 @@ record Told : Type 0 where
   refusal-writes : (there refusalWrites (frame unknown ∷ []) ≡ 0x30) × (due refusalWrites (frame unknown ∷ []) ≡ 0)
   takes-nothing : (there takesNothing written-back ≡ 0x30) × (due takesNothing written-back ≡ 0)
   second-accepted : acceptedWrite forgets once clearOne ≡ true
-  entry-lost : (length (entries twice) ≡ 1) × (length (added 340 (entries once) (lastEntry (entries twice))) ≡ 2)
+  first-only : (slot-there storesFirst twoPoints 40 ≡ 0) × (slot-due storesFirst twoPoints 40 ≡ 1)
+  nothing-stored : (slot-there storesNothing twoPoints 0 ≡ 0) × (slot-due storesNothing twoPoints 0 ≡ 1)
+  entry-lost : (length (entries twice) ≡ 1) × (length (added 380 (entries once) (lastEntry (entries twice))) ≡ 2)
 
 told : Told
 unfolding a-call
@@ -63,6 +79,8 @@ told =
       refusal-writes = (refl, refl);
       takes-nothing = (refl, refl);
       second-accepted = refl;
+      first-only = (refl, refl);
+      nothing-stored = (refl, refl);
       entry-lost = (refl, refl);
     }
 
@@ -77,4 +95,6 @@ broken =
           let f : _≡_ {A = ℕ} 1 2 = sym (told .entry-lost .0) ∙ ap length (v .adds clearOne (told .second-accepted)) ∙ told .entry-lost .1 in
           omega (arith, f);
       takes-nothing = fails takesNothing written-back 0x30 0 (told .takes-nothing .0) (told .takes-nothing .1) (λ q. omega (arith, q));
+      stores-first = half-done storesFirst twoPoints 40 (told .first-only .0) (told .first-only .1);
+      stores-nothing = half-done storesNothing twoPoints 0 (told .nothing-stored .0) (told .nothing-stored .1);
     }

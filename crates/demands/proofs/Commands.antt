@@ -22,7 +22,7 @@ use Rattle.table.specs.declared.Named.{Named}
 use Rattle.table.specs.declared.Named.the-variants.{Known, Unknown}
 use Rattle.table.specs.Table.{row, messageNumbered, messageOf}
 use Rattle.messages.proofs.Shapes.{in-frame}
-use Rattle.demands.specs.Survive.{before, commandOf}
+use Rattle.demands.specs.Reading.{before, commandOf}
 
 -- a frame with any two bytes as its SC
 abbrev framed : ℕ → List ℕ → List ℕ → List ℕ

@@ -19,12 +19,16 @@ use Rattle.journal.proofs.Adding.{encodes-snoc}
 use Rattle.journal.proofs.Again.{good-others}
 use Rattle.journal.proofs.Back.{split-last}
 use Rattle.journal.proofs.Promised.{newest, last-added, others-added}
+use Rattle.frames.specs.Frame.{contentIn}
+use Rattle.table.specs.declared.Named.{Named}
+use Rattle.table.specs.Table.{messageOf, restIn}
 use Rattle.messages.specs.Asked.{askedOf}
+use Rattle.messages.proofs.Judged.{told}
 use Rattle.calls.specs.Calls.{Areas, Sent, Outcome, fresh, areaIn, putIn, withEntries, steppedBack}
-use Rattle.link.specs.Answer.{asked, answerOf, backOf}
+use Rattle.link.specs.Answer.{newBytes, asked, answerOf, backOf}
 use Rattle.link.proofs.Answering.{accepted-back}
 use Rattle.demands.specs.Refused.{asksWrite}
-use Rattle.demands.specs.History.{ours, Event, frame, stepBack, callOn, after, acceptedWrite, butLast, standing, Past, past, alone, allAccepted, entries, made, Holds, EveryHistory}
+use Rattle.demands.specs.History.{ours, Event, frame, stepBack, callOn, after, acceptedWrite, butLast, standing, Past, past, alone, allAccepted, entries, made, runSaid, account, Holds, EveryHistory}
 use Rattle.demands.proofs.Refused.{one-number, changes-nothing, query-changes-nothing}
 use Rattle.demands.proofs.Shaped.{Bounds, Shape, each-long, takes, numberOn, held-is, journal-long, entries-held, same-entries, takes-is, back-is}
 use Rattle.demands.proofs.Wrote.{Writes, ordered, entryOf, oldBy, writtenBy, wrote, same-put, undone, shaped}
@@ -76,7 +80,7 @@ joins size every-one dropped es e m =
 
 module _ {held : Held} {size : ℕ} (b : Bounds held size) where
   -- fresh areas hold no entry
-  fresh-shape : Shape held size (fresh held size) []
+  pub fresh-shape : Shape held size (fresh held size) []
   unfolding areaOf encodes AllGood
   fresh-shape =
       let z : size ≡ size - 0 = omega arith in
@@ -88,7 +92,7 @@ module _ {held : Held} {size : ℕ} (b : Bounds held size) where
       }
 
   -- writes that the board takes
-  abbrev AllTook : List Sent → Type 0
+  abbrev pub AllTook : List Sent → Type 0
   AllTook [] = Unit
   AllTook (s ∷ ss) = (takes held s ≡ true) × AllTook ss
 
@@ -101,12 +105,12 @@ module _ {held : Held} {size : ℕ} (b : Bounds held size) where
   took-init (x ∷ ws) s t = let r = took-init ws s (t .1) in ((t .0, r .0), r .1)
 
   -- areas of the right lengths, whatever their journal holds
-  record Some (a : Areas) : Type 0 where
-    holding : List Entry
-    shape : Shape held size a holding
+  pub record Some (a : Areas) : Type 0 where
+    pub holding : List Entry
+    pub shape : Shape held size a holding
 
   -- what a write orders, and that it is done on any such areas
-  order-of : (s : Sent) → takes held s ≡ true → Writes held s
+  pub order-of : (s : Sent) → takes held s ≡ true → Writes held s
   order-of s e = ordered held s (and-right (eqb (numberOn held s) 0) (asksWrite (askedOf held (s .settings .fitted) (s .frame))) e)
 
   record Done (s : Sent) (w : Writes held s) (a : Areas) (es : List Entry) : Type 0 where
@@ -131,29 +135,50 @@ module _ {held : Held} {size : ℕ} (b : Bounds held size) where
       ap₂ (λ (x y : Bool). x && y) (takes-is b (h .shape) s ∙ t .0)
       (all-accepted ws (after ours a (frame s)) (record { holding = _; shape = done-on s (t .0) (h .shape) .next }) (t .1))
 
+  -- what a write's content says is what is put
+  pub said-is : {s : Sent} (w : Writes held s) → runSaid held (messageOf (s .frame)) (contentIn (s .frame)) ≡ entryOf w
+  unfolding askedOf
+  said-is {s} w =
+      let m = w .message in
+      let content = contentIn (s .frame) in
+      let t = told held (s .settings .fitted) (messageOf (s .frame)) content m (w .start) (w .count) (w .order) in
+      ap (λ (n : Named). runSaid held n content) (t .message)
+      ∙ ap₂ (λ (x y : ℕ). entryFor (m .tag) x (newBytes (m .does) (kindOf held (m .tag) .unit) y (restIn m content))) (sym (t .start-is)) (sym (t .count-is))
+
+  -- so writes done alone leave what their account says
+  pub alone-account : (ws : List Sent) (a a′ : Areas) → Some a → AllTook ws → ((t : ℕ) → areaIn t a ≡ areaIn t a′) → (t : ℕ)
+      → areaIn t (alone ours a ws) ≡ areaIn t (account held a′ ws)
+  alone-account [] a a′ h t same = same
+  alone-account (s ∷ ws) a a′ h t same =
+      let d = done-on s (t .0) (h .shape) in
+      let e = runSaid held (messageOf (s .frame)) (contentIn (s .frame)) in
+      alone-account ws (after ours a (frame s)) (putIn held e a′) (record { holding = _; shape = d .next }) (t .1)
+      (λ u.
+      ap (areaIn u) (d .did) ∙ ap (λ (x : Entry). areaIn u (putIn held x a)) (sym (said-is (order-of s (t .0)))) ∙ same-put held e a a′ same u)
+
   -- the last entry after a write is the write's
   last-is : {s : Sent} {w : Writes held s} {a : Areas} {es : List Entry} → Done s w a es → lastEntry (entries (after ours a (frame s))) ≡ oldBy w a
   unfolding added
   last-is {s} {w} {a} {es} d = ap lastEntry (same-entries b (d .next)) ∙ last-added (kept (size - length (encode (oldBy w a))) es) (oldBy w a)
 
-  abbrev aloneBy : List Sent → Areas
+  abbrev pub aloneBy : List Sent → Areas
   aloneBy ws = alone ours (fresh held size) ws
 
   abbrev madeBy : List Sent → List Entry
   madeBy ws = made ours (fresh held size) ws
 
-  record Inv (p : Past) : Type 0 where
-    holding : List Entry
-    shape : Shape held size (p .areas) holding
-    took : AllTook (p .standing-writes)
-    things : (t : ℕ) → areaIn t (p .areas) ≡ areaIn t (aloneBy (p .standing-writes))
-    dropped : List Entry
-    newest-are : madeBy (p .standing-writes) ≡ dropped ++ holding
+  pub record Inv (p : Past) : Type 0 where
+    pub holding : List Entry
+    pub shape : Shape held size (p .areas) holding
+    pub took : AllTook (p .standing-writes)
+    pub things : (t : ℕ) → areaIn t (p .areas) ≡ areaIn t (aloneBy (p .standing-writes))
+    pub dropped : List Entry
+    pub newest-are : madeBy (p .standing-writes) ≡ dropped ++ holding
 
-  first : Inv (record { areas = fresh held size; standing-writes = [] })
+  pub first : Inv (record { areas = fresh held size; standing-writes = [] })
   first = record { holding = []; shape = fresh-shape; took = tt; things = λ t. refl; dropped = []; newest-are = refl }
 
-  alone-from : (ws : List Sent) → AllTook ws → Some (aloneBy ws)
+  pub alone-from : (ws : List Sent) → AllTook ws → Some (aloneBy ws)
   alone-from ws t = alone-shape ws (fresh held size) (record { holding = []; shape = fresh-shape }) t
 
   -- an accepted write
@@ -365,7 +390,7 @@ module _ {held : Held} {size : ℕ} (b : Bounds held size) where
       go true e = step-latest p v (eqb-true _ _ e) .next
       go false e = subst (λ (x : Areas). Inv (record { areas = x; standing-writes = p .standing-writes })) (sym (back-keeps (v .shape) (eqb-false _ _ e))) v
 
-  every : (p : Past) → Inv p → (events : List Event) → Inv (past ours p events)
+  pub every : (p : Past) → Inv p → (events : List Event) → Inv (past ours p events)
   every p v [] = v
   every p v (frame s ∷ events) = every _ (step-frame p v s) events
   every p v (stepBack ∷ events) = every _ (step-back p v) events
@@ -381,12 +406,15 @@ module _ {held : Held} {size : ℕ} (b : Bounds held size) where
           let none : entries (p .areas) ≡ [] = same-entries b (v .shape) ∙ left-none (v .shape) (zero-used (v .shape) k) in
           ap entries (back-keeps (v .shape) k) ∙ none ∙ ap others (sym none)
 
-  holds-always : (p : Past) → Inv p → Holds ours held size p
+  pub holds-always : (p : Past) → Inv p → Holds ours held size p
   holds-always p v =
       let es = sym (same-entries b (v .shape)) in
       let u : p .areas .kept .used ≡ length (encodes (entries (p .areas))) = v .shape .holds .used ∙ ap (λ (x : List Entry). length (encodes x)) es in
       record {
         things = v .things;
+        whole-writes = λ t.
+            v .things t
+            ∙ alone-account (p .standing-writes) (fresh held size) (fresh held size) (record { holding = []; shape = fresh-shape }) (v .took) (λ u. refl) t;
         accepted-alone = all-accepted (p .standing-writes) (fresh held size) (record { holding = []; shape = fresh-shape }) (v .took);
         dropped = v .dropped;
         newest = v .newest-are ∙ ap (λ (x : List Entry). v .dropped ++ x) es;

@@ -2,8 +2,8 @@ pub mod Refused
 pub mod Sole
 pub mod Computing
 pub mod Worked
-pub mod Useless
 pub mod Replied
+pub mod Parts
 pub mod Shaped
 pub mod Wrote
 pub mod Histories
@@ -12,8 +12,13 @@ pub mod Commands
 pub mod Asking
 pub mod Journals
 pub mod Written
+pub mod Runs
+pub mod Kept
 pub mod Codes
 pub mod Slots
+pub mod Listed
+pub mod Lasting
 pub mod Survived
+pub mod Useless
 pub mod SurviveExamples
 pub mod Examples

@@ -1,16 +1,16 @@
 -- Slots as digits write them: what is listed of them, and how many are effective.
-use Prim.Native.Nat.{ℕ, zero, suc, _+_, _-_, _*_, _/_, _%_, _≤_, _<_}
+use Prim.Native.Nat.{ℕ, zero, suc, _+_, _-_, _*_, _/_, _%_, _≤_, _<_, _^_}
 use mathlib.Core.Path.{_≡_, refl, sym, ap, ap₂, _∙_}
 use mathlib.Core.Bool.{Bool, true, false, cond, not}
 use mathlib.Core.List.{List, [], _∷_, _++_, append-assoc}
-use native.Mathlib.Nat.{zero-add, suc-add}
+use native.Mathlib.Nat.{zero-add, add-zero, suc-add}
 use native.Mathlib.Omega.{arith}
 use lib.Bits.{bitAnd}
 use lib.Dec.{leb, eqb}
 use lib.IntN.{pos}
-use lib.ListN.{length, take, drop, getD, replicate, length-drop, take-append-drop, replicate-append-replicate, List·getD-append}
-use lib.Seq.{length-take-le, take-take, take-append-le, drop-append-le, drop-at, drop-drop}
-use borrow.Author.Tests.{leb-true, not-true}
+use lib.ListN.{length, take, drop, getD, replicate, length-append, length-drop, take-append-drop, replicate-append-replicate, List·getD-append}
+use lib.Seq.{length-take-le, take-take, take-at, take-append-le, drop-append-le, drop-at, drop-drop}
+use borrow.Author.Tests.{leb-true, le-leb, not-true}
 use Rattle.digits.specs.Digits.{digitsOf, allDigits, numberOf}
 use Rattle.digits.proofs.Inverse.{and-left, and-right}
 use Rattle.digits.specs.Laid.{laid}
@@ -21,13 +21,15 @@ use Rattle.points.specs.Units.{position}
 use Rattle.points.specs.Axes.{axesFrom, axesOf}
 use Rattle.points.specs.Point.{positionOf, positionsOf, pointOf, lengthOf, fillsOf, slotOf, slotsOf, positionsIn, pointIn, effectiveIn, pointDigits}
 use Rattle.points.proofs.Measured.{least}
+use Rattle.points.proofs.Ones.{at-most}
+use Rattle.digits.proofs.Inverse.{inverse}
 use Rattle.points.proofs.Parts.{all-take, all-drop}
 use Rattle.points.proofs.Slotted.{length-pointSlot}
 use Rattle.points.proofs.Promised.{slot, every-digit}
 use Rattle.table.specs.Table.{patternFits, patternsFit}
 use Rattle.listing.specs.Listing.{listing, listed}
-use Rattle.demands.specs.Survive.{sent, fitting}
-use Rattle.demands.proofs.Asking.{same-part}
+use Rattle.demands.specs.Reading.{sent, fitting}
+use Rattle.demands.proofs.Parts.{same-part}
 
 -- the positions that stand in bytes do not depend on what stands behind them
 positions-front : (axes : ℕ) (s r : List ℕ) → 4 * axes ≤ length s → positionsIn axes (s ++ r) ≡ positionsIn axes s
@@ -185,6 +187,40 @@ listed-sent fitted (suc count) room number digits rest f a p =
     ∙ ap (λ (x : List (List ℕ)). cond (leb (length s) room) (s ∷ x) [])
     (listed-sent fitted count (room - length s) (suc number) digits′ rest (rest-fills fitted count digits f) (all-drop (lengthOf digits) digits a) (rest-patterns fitted count digits p))
 
+-- a point has at most eight axes
+most : (digits : List ℕ) → 2 ≤ length digits → lengthOf digits ≤ 78
+unfolding lengthOf
+most digits h =
+    let b : numberOf (take 2 digits) < 16 ^ 2 = inverse 2 .bound (take 2 digits) (length-take-le 2 digits h) in
+    omega (arith, at-most (numberOf (take 2 digits)) (omega arith))
+
+-- one of them, by itself
+pub listed-one-sent : (fitted i count number : ℕ) (digits rest : List ℕ) → i < count → fillsOf count digits ≡ true → allDigits digits ≡ true → patternsFit fitted count digits ≡ true
+    → listed 1011 1 (number + i) (take 40 (drop (i * 40) (slotsOf count digits)) ++ rest) ≡ getD (sent count number digits) i [] ∷ []
+unfolding listed sent slotsOf
+listed-one-sent fitted i zero number digits rest l f a p = absurd (omega arith)
+listed-one-sent fitted zero (suc count) number digits rest l f a p =
+    let slot = slotOf (pointOf digits) in
+    let digits′ = drop (lengthOf digits) digits in
+    let s = digitsOf 3 number ++ take (lengthOf digits) digits in
+    let w = first-fills fitted count digits f in
+    let room : leb (length s) 1011 ≡ true = le-leb (length s) 1011 (rw (length-append (digitsOf 3 number) (take (lengthOf digits) digits), length-take-le (lengthOf digits) digits w) (omega (arith, inverse 3 .as-many number, most digits (omega (arith, w, least digits))))) in
+    ap (λ (x : List ℕ). listed 1011 1 (number + 0) (x ++ rest)) (take-at slot (slotsOf count digits′) 40 (length-pointSlot digits))
+    ∙ ap (λ (x : ℕ). listed 1011 1 x (slot ++ rest)) (add-zero number)
+    ∙ listed-one 1011 0 number (slot ++ rest) s rest (ap (λ (x : ℕ). eqb x 0) (slot-pattern digits rest) ∙ first-pattern fitted count digits p)
+    (ap (λ (x : List ℕ). digitsOf 3 number ++ x) (digits-back digits w rest a))
+    (slot-behind digits rest)
+    ∙ rw room
+listed-one-sent fitted (suc i) (suc count) number digits rest l f a p =
+    let slot = slotOf (pointOf digits) in
+    let digits′ = drop (lengthOf digits) digits in
+    let e : suc i * 40 ≡ 40 + i * 40 = omega arith in
+    let n : number + suc i ≡ suc number + i = omega arith in
+    let d : drop (suc i * 40) (slot ++ slotsOf count digits′) ≡ drop (i * 40) (slotsOf count digits′) =
+    ap (λ (x : ℕ). drop x (slot ++ slotsOf count digits′)) e ∙ sym (drop-drop (i * 40) 40 (slot ++ slotsOf count digits′)) ∙ ap (drop (i * 40)) (slot-behind digits (slotsOf count digits′)) in
+    ap₂ (λ (x : ℕ) (y : List ℕ). listed 1011 1 x (take 40 y ++ rest)) n d
+    ∙ listed-one-sent fitted i count (suc number) digits′ rest (omega arith) (rest-fills fitted count digits f) (all-drop (lengthOf digits) digits a) (rest-patterns fitted count digits p)
+
 -- each point that was sent is effective
 pub effective-sent : (fitted count : ℕ) (digits : List ℕ) → patternsFit fitted count digits ≡ true → effectiveIn count (slotsOf count digits) ≡ count
 unfolding effectiveIn slotsOf
@@ -201,6 +237,17 @@ zero-slots : (count : ℕ) → replicate {A = ℕ} (suc count * 40) 0 ≡ replic
 zero-slots count =
     let e : suc count * 40 ≡ 40 + count * 40 = omega arith in
     ap (λ (x : ℕ). replicate {A = ℕ} x 0) e ∙ sym (replicate-append-replicate 40 (count * 40) 0)
+
+-- one of them
+pub zero-part : (i count : ℕ) → i < count → take 40 (drop (i * 40) (replicate {A = ℕ} (count * 40) 0)) ≡ replicate (1 * 40) 0
+zero-part i zero l = absurd (omega arith)
+zero-part zero (suc count) l = rw (zero-slots count) refl
+zero-part (suc i) (suc count) l =
+    let e : suc i * 40 ≡ 40 + i * 40 = omega arith in
+    rw (zero-slots count)
+    (ap (λ (x : ℕ). take 40 (drop x (replicate 40 0 ++ replicate (count * 40) 0))) e
+    ∙ ap (take 40) (sym (drop-drop (i * 40) 40 (replicate 40 0 ++ replicate (count * 40) 0)))
+    ∙ zero-part i count (omega arith))
 
 -- none of them is listed
 pub listed-zero : (room count number : ℕ) (rest : List ℕ) → listed room count number (replicate (count * 40) 0 ++ rest) ≡ []

@@ -1,172 +1,113 @@
--- 244H or 246H, then 209H and 208H; with codes, every digit survives.
-use Prim.Native.Nat.{ℕ, _+_, _-_, _*_, _≤_}
+-- Demand 2, put together: by the next call, and after any history.
+use Prim.Native.Nat.{ℕ, _+_, _*_, _≤_}
 use mathlib.Core.Path.{_≡_, refl, sym, ap, _∙_, subst}
 use mathlib.Core.Bool.{Bool, true}
-use mathlib.Core.List.{List, [], _++_}
+use mathlib.Core.List.{List, []}
 use native.Mathlib.Omega.{arith}
-use lib.ListN.{length, take, drop, length-take, length-drop}
-use lib.Seq.{length-take-le, take-all, drop-at}
-use borrow.Author.Tests.{eqb-true}
-use Rattle.digits.specs.Digits.{byteOf, digitsOf}
-use Rattle.digits.specs.Laid.{laid}
-use Rattle.digits.specs.Text.{text}
+use lib.ListN.{length}
 use Rattle.digits.proofs.Bools.{was-not}
 use Rattle.kinds.specs.declared.Held.{Held}
-use Rattle.kinds.specs.Kinds.{pointsTag, pointsOf, holds, put, heldIn}
-use Rattle.kinds.proofs.Known.{kind-points, within}
+use Rattle.kinds.specs.declared.Lengths.{Lengths}
+use Rattle.kinds.specs.Kinds.{pointsTag, pointsOf, heldIn, holds, put}
+use Rattle.kinds.proofs.Known.{kind-points}
 use Rattle.points.specs.Point.{effectiveIn}
-use Rattle.points.proofs.Parts.{all-drop}
 use Rattle.table.specs.declared.Follows.{Follows}
 use Rattle.table.specs.declared.Follows.the-variants.{Nothing, Points}
 use Rattle.table.specs.declared.Action.{Action}
-use Rattle.table.specs.declared.Action.the-variants.{ListPoints, WritePoints, ClearRun}
+use Rattle.table.specs.declared.Action.the-variants.{WritePoints, ClearRun}
 use Rattle.table.specs.declared.Message.{Message}
 use Rattle.table.specs.declared.Named.the-variants.{Known}
-use Rattle.table.specs.Table.{row, startIn, countIn, patternsFit}
-use Rattle.messages.proofs.Judged.{Right}
-use Rattle.listing.specs.Listing.{listed, joined}
-use Rattle.kinds.specs.declared.Lengths.{Lengths}
-use Rattle.calls.specs.Calls.{Call}
-use Rattle.refusals.specs.Refusals.{silentOf}
+use Rattle.table.specs.Table.{row, messageOf}
+use Rattle.calls.specs.Calls.{Areas, Sent, Call}
 use Rattle.link.specs.Answer.{held, rest, writes, newBytes, answerOf}
 use Rattle.link.proofs.Carrying.{fine}
-use Rattle.demands.specs.Survive.{content, startOf, countOf, Accepted, Says, listedOf, effectiveOf, effectiveNamed, Counted, PointsSurvive, PointsCleared, EveryDigitSurvives}
-use Rattle.demands.proofs.Commands.{counting, listing, writing, clearing, row-of, rows, named}
-use Rattle.demands.proofs.Asking.{Took, took, Lasting, says, same-start, same-count, query-right}
-use Rattle.demands.proofs.Written.{wrote, lasts, only-named}
-use Rattle.demands.proofs.Codes.{codes-survive}
-use Rattle.demands.proofs.Slots.{listed-sent, effective-sent, listed-zero, effective-zero, effective-put}
+use Rattle.demands.specs.History.{ours}
+use Rattle.demands.specs.Reading.{content, startOf, countOf, CodesRead, PointsRead, PointsGone, Reads, effectiveOf}
+use Rattle.demands.specs.Survive.{Accepted, effectiveNamed, Once, Lasts, EveryDigitSurvives}
+use Rattle.demands.proofs.Refused.{one-number}
+use Rattle.demands.proofs.Commands.{writing, clearing, changing, row-of, rows}
+use Rattle.demands.proofs.Asking.{Took, took}
+use Rattle.demands.proofs.Shaped.{Bounds, passes}
+use Rattle.demands.proofs.Written.{wrote, lengths-kept, open-after, only-named}
+use Rattle.demands.proofs.Kept.{Standing, standing-next}
+use Rattle.demands.proofs.Codes.{codes-read}
+use Rattle.demands.proofs.Listed.{counts, points-read, points-gone}
+use Rattle.demands.proofs.Slots.{effective-sent, effective-zero, effective-put}
+use Rattle.demands.proofs.Histories.{first, every}
+use Rattle.demands.proofs.Lasting.{standing-past}
 
--- a 208H has no content to test, and says how many slots of those that are left are effective
-count-said : (c : Call) → silentOf c ≡ 0 → Lasting c → Says c (text "208") (text "208" ++ digitsOf 3 (effectiveOf (answerOf c .areas)))
-unfolding byteOf
-count-said c z l =
-    says c (text "208") (text "208" ++ digitsOf 3 (effectiveOf (answerOf c .areas))) counting z l (omega arith) (omega arith) (named .0)
-    (record { digits = refl; long = refl; program = refl; some = refl; held-all = refl; pattern = refl })
-    (λ frame. refl)
+-- what is read of a write that stands, whichever of the three it is
+reads : {h : Held} {a : Areas} {m : Message} {s : Sent} {later : List Sent} → h .points ≤ 1500 → messageOf (s .frame) ≡ Known m → Standing h a m s later
+    → Reads ours a m s later
+reads {h} {a} {m} {s} {later} sound known t =
+    record {
+      codes = λ i.
+          let e = row-of (s .frame) 0x24E changing known i (rows .2) in
+          subst (λ (x : Message). CodesRead ours a x s later) (sym e) (codes-read (here e));
+      points = λ i.
+          let e = row-of (s .frame) 0x244 writing known i (rows .0) in
+          subst (λ (x : Message). PointsRead ours a x s later) (sym e) (points-read (here e) sound);
+      cleared = λ i.
+          let e = row-of (s .frame) 0x246 clearing known i (rows .1) in
+          subst (λ (x : Message). PointsGone ours a x s later) (sym e) (points-gone (here e) sound);
+    }
+  where
+    here : {r : Message} → m ≡ r → Standing h a r s later
+    here e = subst (λ (x : Message). Standing h a x s later) e t
 
--- what a 209H lists of the points that are left, from the slots that it names on
-list-said : (c : Call) (s : List ℕ) (ls : List (List ℕ)) → silentOf c ≡ 0 → Lasting c → Right (held c) (c .sent .settings .fitted) listing s → length s ≤ 6
-    → listed 1011 (countIn listing s) (startIn listing s) (drop ((startIn listing s - 1) * 40) (answerOf c .areas .points)) ≡ ls
-    → Says c (text "209" ++ s) (text "209" ++ (digitsOf 3 (length ls) ++ joined ls))
-unfolding byteOf
-list-said c s ls z l r h e =
-    says c (text "209" ++ s) (text "209" ++ (digitsOf 3 (length ls) ++ joined ls)) listing z l (omega arith) (omega arith) (named .1) r
-    (λ frame. ap (λ (x : List (List ℕ)). text "209" ++ (digitsOf 3 (length x) ++ joined x)) e)
-
--- where a held run was put, it stands, and what was behind it
-put-there : (h : Held) (start count : ℕ) (bytes area : List ℕ) → holds (pointsOf h) start count ≡ true → length area ≡ h .points * 40
-    → drop ((start - 1) * 40) (put (pointsOf h) start bytes area) ≡ bytes ++ drop ((start - 1) * 40 + length bytes) area
-unfolding put laid
-put-there h start count bytes area e l =
-    let w = within (pointsOf h) start count e in
-    drop-at (take ((start - 1) * 40) area) (bytes ++ drop ((start - 1) * 40 + length bytes) area) ((start - 1) * 40)
-    (length-take-le ((start - 1) * 40) area (omega arith))
-
--- a message that writes slots
+-- a message that writes slots: each effective one of them is counted once
 module _ (id : ℕ) (follows : Follows) (does : Action) (repeats : Bool) where
   abbrev slots : Message
   slots = row id 0 3 3 pointsTag follows does repeats
 
-  module _ (c : Call) (t : Took slots c) (w : writes does ≡ true) (l : Lasting c) where
-    -- its bytes
-    abbrev new : List ℕ
-    new = newBytes does 40 (countOf slots c) (rest c slots)
+  counted-once : (c : Call) → Took slots c → writes does ≡ true → (many : ℕ)
+      → effectiveIn (countOf slots (c .sent)) (newBytes does 40 (countOf slots (c .sent)) (rest c slots)) ≡ many → Once ours slots c many
+  counted-once c t w many e =
+      let s = startOf slots (c .sent) in
+      let n = countOf slots (c .sent) in
+      let new = newBytes does 40 n (rest c slots) in
+      let r = wrote slots c t w in
+      let stored : answerOf c .areas .points ≡ put (pointsOf (held c)) s new (c .areas .points) = rw (kind-points (held c)) at (r .own) in
+      let all : holds (pointsOf (held c)) s n ≡ true = rw (kind-points (held c)) at (r .run .run .held-all) in
+      let many-bytes : length new ≡ n * 40 = rw (kind-points (held c)) at (r .run .long) in
+      let long : length (c .areas .points) ≡ held c .points * 40 = omega (arith, fine c (t .heard) .points .whole-slots) in
+      ap (λ (x : Lengths). effectiveIn (heldIn x .points) (answerOf c .areas .points) + effectiveNamed slots c) (lengths-kept slots c t w)
+      ∙ ap (λ (x : List ℕ). effectiveIn (held c .points) x + effectiveNamed slots c) stored
+      ∙ effective-put (held c) s n new (c .areas .points) all long many-bytes
+      ∙ ap (λ (x : ℕ). effectiveOf (c .areas) + x) e
 
-    -- its run is held, its bytes are as many, and they are put there
-    run-held : holds (pointsOf (held c)) (startOf slots c) (countOf slots c) ≡ true
-    run-held = rw (kind-points (held c)) at (wrote slots c t w .run .run .held-all)
+-- the frame of an accepted call was taken
+taken : {id : ℕ} (c : Call) (a : Accepted id c) → Took (a .message) c
+taken c a = took (a .message) c (a .known) (one-number .frame c ∙ a .number)
 
-    as-many : length new ≡ countOf slots c * 40
-    as-many = rw (kind-points (held c)) at (wrote slots c t w .run .long)
-
-    stored : answerOf c .areas .points ≡ put (pointsOf (held c)) (startOf slots c) new (c .areas .points)
-    stored = rw (kind-points (held c)) at (wrote slots c t w .own)
-
-    area-long : length (c .areas .points) ≡ held c .points * 40
-    area-long = omega (arith, fine c (t .heard) .points .whole-slots)
-
-    -- they stand where a 209H looks
-    there : drop ((startOf slots c - 1) * 40) (answerOf c .areas .points) ≡ new ++ drop ((startOf slots c - 1) * 40 + length new) (c .areas .points)
-    there = ap (drop ((startOf slots c - 1) * 40)) stored ∙ put-there (held c) (startOf slots c) (countOf slots c) new (c .areas .points) run-held area-long
-
-    -- each effective one of them is counted once
-    counted : (many : ℕ) → effectiveIn (countOf slots c) new ≡ many → Counted slots c many
-    counted many e =
-        record {
-          said = count-said c (t .heard) l;
-          once =
-              ap (λ (x : Lengths). effectiveIn (heldIn x .points) (answerOf c .areas .points) + effectiveNamed slots c) (l .lengths)
-              ∙ ap (λ (x : List ℕ). effectiveIn (held c .points) x + effectiveNamed slots c) stored
-              ∙ effective-put (held c) (startOf slots c) (countOf slots c) new (c .areas .points) run-held area-long as-many
-              ∙ ap (λ (x : ℕ). effectiveOf (c .areas) + x) e;
-        }
-
--- after a 244H its points are listed as they were sent, as many as fit, and each is counted
-written : (c : Call) → Took writing c → Lasting c → PointsSurvive writing c
-written c t l =
-    record {
-      kind = refl;
-      listed =
-          list-said c (take 6 s) (listedOf writing c) (t .heard) l (query-right 0x244 0x209 0 3 3 pointsTag Points WritePoints ListPoints true _ c t refl)
-          (simp length-take (omega arith))
-          (rw (
-            same-start 0x244 0x209 0 3 3 pointsTag Points WritePoints ListPoints true true s,
-            same-count 0x244 0x209 0 3 3 pointsTag Points WritePoints ListPoints true true s,
-            there 0x244 Points WritePoints true c t refl l,
-          )
-          (listed-sent (c .sent .settings .fitted) (countOf writing c) 1011 (startOf writing c) (rest c writing) _ (t .assured .follows) (all-drop 6 s (t .assured .digits refl)) patterns));
-      counted = counted 0x244 Points WritePoints true c t refl l (countOf writing c) (effective-sent (c .sent .settings .fitted) (countOf writing c) (rest c writing) patterns);
-    }
-  where
-    s : List ℕ
-    s = content c
-
-    patterns : patternsFit (c .sent .settings .fitted) (countOf writing c) (rest c writing) ≡ true
-    patterns = was-not (t .right .pattern)
-
--- after a 246H its points are neither listed nor counted
-cleared : (c : Call) → Took clearing c → Lasting c → PointsCleared clearing c
-unfolding byteOf
-cleared c t l =
-    record {
-      kind = refl;
-      listed =
-          list-said c s [] (t .heard) l (subst (Right (held c) (c .sent .settings .fitted) listing) (take-all 6 s (omega (arith, six))) (query-right 0x246 0x209 0 3 3 pointsTag Nothing ClearRun ListPoints _ _ c t refl))
-          (omega (arith, six))
-          (rw (there 0x246 Nothing ClearRun _ c t refl l) (listed-zero 1011 (countOf clearing c) (startOf clearing c) _));
-      counted = counted 0x246 Nothing ClearRun _ c t refl l 0 (effective-zero (countOf clearing c));
-    }
-  where
-    s : List ℕ
-    s = content c
-
-    six : length s ≡ 6
-    six =
-        let f = t .assured .fields in
-        let d : length (drop 6 s) ≡ 0 = eqb-true _ _ (t .assured .follows) in
-        omega (arith, length-drop 6 s)
-
--- after each accepted 244H
-points-survive : (c : Call) (a : Accepted 0x244 c) → PointsSurvive (a .message) c
-points-survive c a =
+written-once : (c : Call) (a : Accepted 0x244 c) → Once ours (a .message) c (countOf (a .message) (c .sent))
+written-once c a =
     let e = row-of (c .sent .frame) 0x244 writing (a .known) (a .named) (rows .0) in
-    let t = took writing c (a .known ∙ ap Known e) (a .number) in
-    subst (λ (m : Message). PointsSurvive m c) (sym e) (written c t (lasts writing c t refl (a .bytes)))
+    let t = subst (λ (m : Message). Took m c) e (taken c a) in
+    subst (λ (m : Message). Once ours m c (countOf m (c .sent))) (sym e)
+    (counted-once 0x244 Points WritePoints true c t refl (countOf writing (c .sent))
+    (effective-sent (c .sent .settings .fitted) (countOf writing (c .sent)) (rest c writing) (was-not (t .right .pattern))))
 
--- and each accepted 246H
-points-cleared : (c : Call) (a : Accepted 0x246 c) → PointsCleared (a .message) c
-points-cleared c a =
+cleared-once : (c : Call) (a : Accepted 0x246 c) → Once ours (a .message) c 0
+cleared-once c a =
     let e = row-of (c .sent .frame) 0x246 clearing (a .known) (a .named) (rows .1) in
-    let t = took clearing c (a .known ∙ ap Known e) (a .number) in
-    subst (λ (m : Message). PointsCleared m c) (sym e) (cleared c t (lasts clearing c t refl (a .bytes)))
+    let t = subst (λ (m : Message). Took m c) e (taken c a) in
+    subst (λ (m : Message). Once ours m c 0) (sym e) (counted-once 0x246 Nothing ClearRun _ c t refl 0 (effective-zero (countOf clearing (c .sent))))
 
--- demand 2, for codes, points and cleared points
-pub every-digit-survives : EveryDigitSurvives
+-- demand 2
+pub every-digit-survives : EveryDigitSurvives ours
 every-digit-survives =
     record {
-      codes = codes-survive;
-      points = points-survive;
-      cleared = points-cleared;
-      others = λ id c a. only-named (a .message) c (took (a .message) c (a .known) (a .number));
+      next = λ id c a. reads (fine c (taken c a .heard) .sound-held .points) (a .known) (standing-next (a .message) c (taken c a) (a .bytes));
+      counted = λ id c a. counts (answerOf c .areas) (open-after (a .message) c (taken c a) (a .bytes));
+      written-once = written-once;
+      cleared-once = cleared-once;
+      others = λ id c a. only-named (a .message) c (taken c a);
+      later = λ h size s l g events.
+          let b : Bounds h size = record { sound = s; least = l; largest = g } in
+          let v = every b _ (first b) events in
+          record {
+            counted = counts _ (passes b (v .shape));
+            read = λ earlier later s m q known. reads (b .sound .points) known (standing-past b _ v earlier later s m q known);
+          };
     }

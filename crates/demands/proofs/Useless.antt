@@ -1,49 +1,92 @@
--- Each useless board is ruled out by what a call or two of the bench compute to.
-use Prim.Native.Nat.{ℕ}
-use mathlib.Core.Path.{_≡_, refl, sym, ap, _∙_}
-use mathlib.Core.List.{List, _∷_}
+-- Each useless board is ruled out by what a call or two compute to; and there are such boards.
+use Prim.Native.Nat.{ℕ, zero, suc, _+_, _-_, _*_, _/_, _<_, _≤_}
+use mathlib.Core.Path.{_≡_, refl, sym, ap, ap₂, _∙_, subst}
+use mathlib.Core.Bool.{Bool, true, false, cond, _&&_}
+use mathlib.Core.List.{List, _∷_, [], _++_}
 use native.Mathlib.Omega.{arith}
+use lib.Dec.{eqb}
 use lib.ListN.{length, take, drop, getD, replicate}
+use lib.Seq.{getD-take}
+use borrow.Author.Tests.{eq-eqb, le-leb}
+use Rattle.digits.specs.Digits.{worthOf, byteOf, digitsOf}
 use Rattle.digits.specs.Text.{text}
 use Rattle.digits.proofs.Laid.{take-laid}
+use Rattle.digits.proofs.Bools.{either}
+use Rattle.frames.specs.Frame.{normal, messageIn, replyOf}
+use Rattle.kinds.specs.declared.Held.{Held}
+use Rattle.kinds.specs.declared.Lengths.{Lengths}
+use Rattle.kinds.specs.Kinds.{pointsOf, pointsTag, heldIn, holds, runOf, put}
+use Rattle.kinds.proofs.Known.{kind-points, within}
+use Rattle.points.specs.Point.{effectiveIn, slotsOf}
+use Rattle.table.specs.declared.Message.{Message}
+use Rattle.table.specs.declared.Named.the-variants.{Known}
+use Rattle.messages.specs.declared.Asked.{Asked}
+use Rattle.messages.specs.declared.Asked.the-variants.{Refused, Order}
+use Rattle.table.specs.Table.{messageOf}
 use Rattle.calls.specs.declared.Kept.{Kept}
-use Rattle.calls.specs.Calls.{Areas, Call, areasOf}
-use Rattle.link.specs.Answer.{answerOf}
-use Rattle.demands.specs.Cases.{bench, blank}
-use Rattle.demands.specs.Useless.{Board, Meets, repliedBy, Useless}
+use Rattle.calls.specs.Calls.{Areas, Call, Outcome, fresh, lengthsOf, written}
+use Rattle.refusals.specs.Refusals.{refusalOf}
+use Rattle.link.specs.Answer.{held, asked, rest, writes, answerOf}
+use Rattle.link.proofs.Answering.{accepted, frame-number}
+use Rattle.link.proofs.Carrying.{fine, slots-long}
+use Rattle.demands.specs.Cases.{holding, bench}
+use Rattle.demands.specs.History.{Conduct}
+use Rattle.demands.specs.Reading.{startOf, countOf, Host, asking, Says, effectiveOf, Counts}
+use Rattle.demands.specs.Survive.{Accepted, effectiveNamed, EveryDigitSurvives}
+use Rattle.demands.specs.Useless.{RefusesAll, SameReply, StoresNothing, behindFirst, StoresFirst, InventsCount, InventsUsed, usedAfter, Board, Meets, outcomeBy, Useless, ShutOut, firstOnly, tellsFive, refuser, parrot, storesNothing, storesFirst, fiveAlways, usedAll, usedMore, Made}
 use Rattle.demands.proofs.Computing.{a-call}
+use Rattle.demands.proofs.Commands.{counting, writing, clearing, row-of, rows, messageNamed, message-of, named}
+use Rattle.demands.proofs.Asking.{Took, took}
+use Rattle.demands.proofs.Written.{area-size, areas-left, wrote}
+use Rattle.demands.proofs.Runs.{put-apart}
+
+-- a board of two points: asked for a test, for the count; point 1 written, points 1 and 2 written, point 1 cleared
+abbrev two : Areas
+two = fresh (holding 2) 380
 
 abbrev test : Call
-test = bench blank (text "!99200001234567829\r\n")
+test = bench two (text "!99200001234567829\r\n")
 
-abbrev unknown : Call
-unknown = bench blank (text "!99299@@\r\n")
+abbrev countOn : Areas → Call
+countOn a = bench a (text "!99208@@\r\n")
 
--- points 1 and 2, of one axis each
-abbrev write : Call
-write = bench blank (text "!9924400100201000000000000000000010100000000000000000001@@\r\n")
+abbrev one-point : Call
+one-point = bench two (text "!992440010010100000000000000000001@@\r\n")
 
--- a 208H to a board with no effective point, and to one with point 1
-abbrev count : List ℕ → Call
-count points = bench (areasOf points (blank .columns) (blank .journal) (blank .kept)) (text "!99208@@\r\n")
+abbrev two-points : Call
+two-points = bench two (text "!9924400100201000000000000000000010100000000000000000001@@\r\n")
 
-abbrev none : Call
-none = count (replicate 40 0)
+abbrev no-point : Call
+no-point = bench two (text "!99246001001@@\r\n")
 
-abbrev some : Call
-some = count (1 ∷ replicate 39 0)
+-- a fresh journal is bytes
+pub zero-bytes : (n i : ℕ) → getD (replicate n 0) i 0 < 256
+zero-bytes zero i = omega arith
+zero-bytes (suc n) zero = omega arith
+zero-bytes (suc n) (suc i) = zero-bytes n i
 
 -- what they compute to
 record Told : Type 0 where
   test-number : answerOf test .number ≡ 0
   test-text : answerOf test .text ≡ text "#9920000123456782B\r\n"
-  test-used : answerOf test .areas .kept .used ≡ 0
-  unknown-text : answerOf unknown .text ≡ text "&991012A\r\n"
-  first-stored : getD (answerOf write .areas .points) 0 0 ≡ 1
-  second-stored : getD (drop 40 (answerOf write .areas .points)) 0 0 ≡ 1
-  write-used : answerOf write .areas .kept .used ≡ 85
-  none-text : answerOf none .text ≡ text "#99208000BF\r\n"
-  some-text : answerOf some .text ≡ text "#99208001C0\r\n"
+  none-number : answerOf (countOn two) .number ≡ 0
+  none-text : answerOf (countOn two) .text ≡ text "#99208000BF\r\n"
+  some-number : answerOf (countOn (answerOf one-point .areas)) .number ≡ 0
+  some-text : answerOf (countOn (answerOf one-point .areas)) .text ≡ text "#99208001C0\r\n"
+  one-refused : refusalOf one-point ≡ 0
+  one-known : messageOf (one-point .sent .frame) ≡ Known writing
+  two-refused : refusalOf two-points ≡ 0
+  two-known : messageOf (two-points .sent .frame) ≡ Known writing
+  none-refused : refusalOf no-point ≡ 0
+  none-known : messageOf (no-point .sent .frame) ≡ Known clearing
+  second-stored : getD (behindFirst writing two-points (answerOf two-points .areas .points)) 0 0 ≡ 1
+  second-before : getD (behindFirst writing two-points (two .points)) 0 0 ≡ 0
+  first-stored : getD (answerOf two-points .areas .points) 0 0 ≡ 1
+  one-counted : (effectiveNamed writing one-point ≡ 0) × (effectiveOf two ≡ 0) × (countOf writing (one-point .sent) ≡ 1)
+  two-counted : (effectiveNamed writing two-points ≡ 0) × (countOf writing (two-points .sent) ≡ 2)
+  none-counted : effectiveNamed clearing no-point ≡ 0
+  used-all : usedAfter writing two-points ≡ 85
+  used-more : answerOf two-points .areas .kept .used ≡ 85
 
 told : Told
 unfolding a-call
@@ -51,18 +94,39 @@ told =
     record {
       test-number = refl;
       test-text = refl;
-      test-used = refl;
-      unknown-text = refl;
-      first-stored = refl;
-      second-stored = refl;
-      write-used = refl;
+      none-number = refl;
       none-text = refl;
+      some-number = refl;
       some-text = refl;
+      one-refused = refl;
+      one-known = refl;
+      two-refused = refl;
+      two-known = refl;
+      none-refused = refl;
+      none-known = refl;
+      second-stored = refl;
+      second-before = refl;
+      first-stored = refl;
+      one-counted = (refl, refl, refl);
+      two-counted = (refl, refl);
+      none-counted = refl;
+      used-all = refl;
+      used-more = refl;
     }
 
+-- each write is accepted
+abbrev is-one : Accepted 0x244 one-point
+is-one = record { message = writing; named = refl; known = told .one-known; number = told .one-refused; bytes = zero-bytes 380 }
+
+abbrev is-two : Accepted 0x244 two-points
+is-two = record { message = writing; named = refl; known = told .two-known; number = told .two-refused; bytes = zero-bytes 380 }
+
+abbrev is-none : Accepted 0x246 no-point
+is-none = record { message = clearing; named = refl; known = told .none-known; number = told .none-refused; bytes = zero-bytes 380 }
+
+-- the contract's outcome
 module _ (board : Board) (m : Meets board) (c : Call) where
-  -- what a board that meets the contract replies is the outcome's text
-  replied : repliedBy board c ≡ answerOf c .text
+  replied : outcomeBy board c .text ≡ answerOf c .text
   replied =
       ap (λ (n : ℕ). take n (board c .reply)) (m c .length-is) ∙ ap (take (length (answerOf c .text))) (m c .reply-is)
       ∙ take-laid (c .sent .reply) (answerOf c .text) _ refl
@@ -73,26 +137,189 @@ module _ (board : Board) (m : Meets board) (c : Call) where
   used : board c .answered .kept .used ≡ answerOf c .areas .kept .used
   used = ap (λ (k : Kept). k .used) (m c .kept-is)
 
+-- an accepted frame was taken
+is-taken : {id : ℕ} (c : Call) (a : Accepted id c) → Took (a .message) c
+is-taken c a = took (a .message) c (a .known) (frame-number c ∙ a .number)
+
+-- the used length that an accepted write leaves
+left-used : {id : ℕ} (c : Call) (a : Accepted id c) → writes (a .message .does) ≡ true → answerOf c .areas .kept .used ≡ usedAfter (a .message) c
+left-used c a w = ap (λ (x : Areas). x .kept .used) (areas-left (a .message) c (is-taken c a) true w)
+
 pub useless : Useless
 useless =
     record {
       can-be-met = λ c. record { number-is = refl; length-is = refl; kept-is = refl; areas-are = refl; reply-is = refl };
       refuses-all = λ board n m. n test (m test .number-is ∙ told .test-number);
       same-reply = λ board same m.
-          let e = sym (told .test-text) ∙ sym (replied board m test) ∙ same test unknown ∙ replied board m unknown ∙ told .unknown-text in
-          let f : _≡_ {A = ℕ} 0x23 0x26 = ap (λ (s : List ℕ). getD s 0 0) e in
+          let e =
+          sym (told .test-text) ∙ sym (replied board m test)
+          ∙ same test (countOn two) (m test .number-is ∙ told .test-number) (m (countOn two) .number-is ∙ told .none-number)
+          ∙ replied board m (countOn two)
+          ∙ told .none-text in
+          let f : _≡_ {A = ℕ} 0x30 0x38 = ap (λ (s : List ℕ). getD s 5 0) e in
           absurd (omega (arith, f));
       stores-nothing = λ board n m.
-          let f : _≡_ {A = ℕ} 1 0 = sym (told .first-stored) ∙ ap (λ (s : List ℕ). getD s 0 0) (sym (points board m write) ∙ n write) in
+          let f : _≡_ {A = ℕ} 1 0 = sym (told .first-stored) ∙ ap (λ (s : List ℕ). getD s 0 0) (sym (points board m two-points) ∙ n two-points) in
           absurd (omega (arith, f));
       stores-first = λ board n m.
-          let f : _≡_ {A = ℕ} 1 0 = sym (told .second-stored) ∙ ap (λ (s : List ℕ). getD s 0 0) (ap (drop 40) (sym (points board m write)) ∙ n write) in
+          let e = ap (behindFirst writing two-points) (sym (points board m two-points)) ∙ n two-points is-two in
+          let f : _≡_ {A = ℕ} 1 0 = sym (told .second-stored) ∙ ap (λ (s : List ℕ). getD s 0 0) e ∙ told .second-before in
           absurd (omega (arith, f));
       invents-count = λ board same m.
-          let e = sym (told .none-text) ∙ sym (replied board m none) ∙ same none some refl refl ∙ replied board m some ∙ told .some-text in
+          let c = countOn two in
+          let d = countOn (answerOf one-point .areas) in
+          let e =
+          sym (told .none-text) ∙ sym (replied board m c) ∙ same c d refl refl refl (m c .number-is ∙ told .none-number) (m d .number-is ∙ told .some-number)
+          ∙ replied board m d
+          ∙ told .some-text in
           let f : _≡_ {A = ℕ} 0x30 0x31 = ap (λ (s : List ℕ). getD s 8 0) e in
           absurd (omega (arith, f));
-      invents-used = λ board same m.
-          let f : _≡_ {A = ℕ} 0 85 = sym (told .test-used) ∙ sym (used board m test) ∙ same test write ∙ used board m write ∙ told .write-used in
-          absurd (omega (arith, f));
+      invents-used = λ board i m. i .other (used board m (i .call) ∙ left-used (i .call) (i .accepted) (i .is-write));
+    }
+
+-- the bench's host is heard
+is-host : Host (test .sent)
+unfolding a-call
+is-host = record { reply-long = omega arith; axes-fit = refl; station-byte = omega arith }
+
+-- a board that keeps demand 2
+module _ (board : Conduct) (d : EveryDigitSurvives board) where
+  -- counts one point after one was written to a fresh board, and none after a clear
+  one-counted : effectiveOf (board .answer one-point .areas) ≡ 1
+  one-counted = omega (arith, d .written-once one-point is-one, told .one-counted .0, told .one-counted .1, told .one-counted .2)
+
+  none-counted : effectiveOf (board .answer no-point .areas) ≡ 0
+  none-counted = omega (arith, d .cleared-once no-point is-none, told .none-counted, told .one-counted .1)
+
+  -- asked for the count after a call
+  abbrev counting-after : Call → Call
+  counting-after c = asking (board .answer c .areas) (test .sent) false (text "208")
+
+  heard : {id : ℕ} (c : Call) → Accepted id c → board .answer (counting-after c) .number ≡ 0
+  heard {id} c a = d .counted id c a .number (test .sent) is-host false
+
+  -- so its reply is not the same
+  differs : board .answer (counting-after one-point) .text ≡ board .answer (counting-after no-point) .text → ⊥
+  unfolding byteOf replyOf
+  differs e =
+      let s : (n : ℕ) → List ℕ = λ n. replyOf normal 0x99 (text "208" ++ digitsOf 3 n) in
+      let f =
+      ap s (sym one-counted) ∙ sym (d .counted 0x244 one-point is-one .text (test .sent) is-host false) ∙ e
+      ∙ d .counted 0x246 no-point is-none .text (test .sent) is-host false
+      ∙ ap s none-counted in
+      let g : _≡_ {A = ℕ} 0x31 0x30 = ap (λ (t : List ℕ). getD t 8 0) f in
+      omega (arith, g)
+
+  -- two points were written, and the second is effective
+  abbrev left : List ℕ
+  left = board .answer two-points .areas .points
+
+  two-held : heldIn (lengthsOf (board .answer two-points .areas)) .points ≡ 2
+  two-held = let l : length left ≡ 80 = d .others 0x244 two-points is-two .outside .as-long in omega (arith, l)
+
+  second-there : getD (drop 40 left) 0 0 ≡ 0 → ⊥
+  unfolding effectiveIn
+  second-there z =
+      let e = d .written-once two-points is-two in
+      let f : effectiveIn 2 left ≡ 2 = sym (ap (λ (n : ℕ). effectiveIn n left) two-held) ∙ omega (arith, e, told .two-counted .0, told .two-counted .1, told .one-counted .1) in
+      let s : eqb (getD (drop 40 left) 0 0) 0 ≡ true = eq-eqb _ 0 z in
+      either (λ (n : ℕ). n + (cond true 0 1 + 0) ≡ 2 → ⊥) (eqb (getD left 0 0) 0) (λ _ q. omega (arith, q)) (λ _ q. omega (arith, q)) (rw s at f)
+
+pub shut-out : ShutOut
+unfolding runOf worthOf
+shut-out =
+    record {
+      refuses-all = λ board n d. n (counting-after board d one-point) (heard board d one-point is-one);
+      same-reply = λ board same d.
+          differs board d (same (counting-after board d one-point) (counting-after board d no-point) (heard board d one-point is-one) (heard board d no-point is-none));
+      stores-nothing = λ board n d.
+          let e : effectiveOf (board .answer one-point .areas) ≡ 1 = one-counted board d in
+          let l = ap length (n one-point) in
+          let f : effectiveOf (board .answer one-point .areas) ≡ effectiveOf two = ap₂ (λ (k : ℕ) (p : List ℕ). effectiveIn (k / 40) p) l (n one-point) in
+          omega (arith, e, f, told .one-counted .1);
+      stores-first = λ board n d.
+          let e : getD (take 40 (drop 40 (left board d))) 0 0 ≡ 0 = ap (λ (s : List ℕ). getD s 0 0) (n two-points is-two) ∙ told .second-before in
+          second-there board d (sym (getD-take 40 (drop 40 (left board d)) 0 0 (omega arith)) ∙ e);
+      invents-count = λ board same d.
+          differs board d
+          (same (counting-after board d one-point) (counting-after board d no-point) refl refl refl (heard board d one-point is-one) (heard board d no-point is-none));
+    }
+
+-- the points that a 244H leaves where its first slot alone is stored: what it names behind that stays
+module _ (c : Call) (t : Took writing c) where
+  abbrev start : ℕ
+  start = startOf writing (c .sent)
+
+  abbrev first-alone : List ℕ
+  first-alone = put (pointsOf (held c)) start (slotsOf 1 (rest c writing)) (c .areas .points)
+
+  stored-first : firstOnly c (asked c) (answerOf c) .areas .points ≡ first-alone
+  stored-first = ap (λ (x : Asked). firstOnly c x (answerOf c) .areas .points) (t .order) ∙ rw (t .answer)
+
+  in-reach : (1 ≤ start) × (start + countOf writing (c .sent) ≤ 1 + held c .points)
+  in-reach = within (pointsOf (held c)) start (countOf writing (c .sent)) (rw (kind-points (held c)) at (wrote writing c t refl .run .run .held-all))
+
+  first-held : holds (pointsOf (held c)) start 1 ≡ true
+  unfolding holds
+  first-held =
+      rw (
+        le-leb 1 start (in-reach .0),
+        le-leb (start + 1) (1 + held c .points) (omega (arith, in-reach .1, wrote writing c t refl .run .run .some)),
+      )
+
+  behind-stays : behindFirst writing c (firstOnly c (asked c) (answerOf c) .areas .points) ≡ behindFirst writing c (c .areas .points)
+  behind-stays =
+      ap (behindFirst writing c) stored-first
+      ∙ put-apart (pointsOf (held c)) start 1 (slotsOf 1 (rest c writing)) (c .areas .points) first-held (omega (arith, fine c (t .heard) .points .whole-slots))
+      (slots-long 1 (rest c writing))
+      (suc start)
+      (countOf writing (c .sent) - 1)
+      (omega arith)
+      (rw (le-leb (start + 1) (suc start) (omega arith)))
+
+stays : StoresFirst (storesFirst .answer)
+stays c a =
+    let e = row-of (c .sent .frame) 0x244 writing (a .known) (a .named) (rows .0) in
+    subst (λ (x : Message). behindFirst x c (firstOnly c (asked c) (answerOf c) .areas .points) ≡ behindFirst x c (c .areas .points)) (sym e)
+    (behind-stays c (subst (λ (x : Message). Took x c) e (is-taken c a)))
+
+-- five is told, whatever the points
+told-five : (c : Call) → messageIn (c .sent .frame) ≡ text "208" → fiveAlways .answer c .number ≡ 0
+    → fiveAlways .answer c .text ≡ replyOf normal (c .sent .settings .station) (text "208005")
+told-five c e n =
+    let k : messageOf (c .sent .frame) ≡ Known counting = message-of (c .sent .frame) (text "208") e ∙ named .0 in
+    let z : answerOf c .number ≡ 0 = same-number (asked c) n in
+    let t = took counting c k z in
+    ap (λ (x : Asked). tellsFive c x (answerOf c) .text) (t .order) ∙ rw (t .answer)
+  where
+    same-number : (x : Asked) → tellsFive c x (answerOf c) .number ≡ 0 → answerOf c .number ≡ 0
+    same-number (Refused number) n = n
+    same-number (Order m start count) n =
+        either (λ (o : Outcome). o .number ≡ 0 → answerOf c .number ≡ 0) (eqb (m .id) 0x208 && eqb (answerOf c .number) 0) (λ _ q. q) (λ _ q. q) n
+
+pub made : Made
+made =
+    record {
+      refuses-all = λ c e. let f : _≡_ {A = ℕ} 8 0 = e in omega (arith, f);
+      same-reply = λ c d p q. refl;
+      stores-nothing = λ c. refl;
+      stores-first = stays;
+      invents-count = λ c d e f s p q.
+          told-five c e p ∙ ap (λ (n : ℕ). replyOf normal n (text "208005")) s ∙ sym (told-five d (ap messageIn (sym f) ∙ e) q);
+      used-all =
+          record {
+            id = 0x244;
+            call = two-points;
+            accepted = is-two;
+            is-write = refl;
+            other = λ e. let f : _≡_ {A = ℕ} 380 85 = e ∙ told .used-all in omega (arith, f);
+          };
+      used-more =
+          record {
+            id = 0x244;
+            call = two-points;
+            accepted = is-two;
+            is-write = refl;
+            other = λ e. let f : _≡_ {A = ℕ} 86 85 = sym (ap (λ (n : ℕ). n + 1) (told .used-more)) ∙ e ∙ told .used-all in omega (arith, f);
+          };
     }

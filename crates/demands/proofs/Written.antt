@@ -2,16 +2,11 @@
 use Prim.Native.Nat.{ℕ, _*_, _≤_}
 use mathlib.Core.Path.{_≡_, refl, sym, ap, ap₂, _∙_, subst}
 use mathlib.Core.Bool.{Bool, true, false, cond}
-use mathlib.Core.List.{List, [], _++_}
+use mathlib.Core.List.{List, []}
 use native.Mathlib.Omega.{arith}
 use lib.Dec.{eqb}
-use lib.ListN.{length, length-append}
+use lib.ListN.{length}
 use borrow.Author.Tests.{eqb-true, eqb-false}
-use Rattle.digits.specs.Digits.{digitsOf}
-use Rattle.digits.proofs.Inverse.{inverse}
-use Rattle.digits.proofs.Bools.{either}
-use Rattle.frames.specs.Frame.{normal}
-use Rattle.frames.proofs.Closing.{length-reply}
 use Rattle.kinds.specs.declared.Kind.{Kind}
 use Rattle.kinds.specs.declared.Held.{Held}
 use Rattle.kinds.specs.Kinds.{pointsTag, columnsTag, pointsOf, columnsOf, kindOf, holds, sizeOf, runOf, put}
@@ -21,17 +16,17 @@ use Rattle.journal.specs.Journal.{Entry, puts, entryFor}
 use Rattle.journal.specs.Laws.{Good}
 use Rattle.journal.proofs.Codec.{Bytes}
 use Rattle.journal.proofs.Fitting.{good, puts-other}
-use Rattle.table.specs.declared.Action.{Action}
-use Rattle.table.specs.declared.Action.the-variants.{SayBack, CountPoints, ListPoints, ReadRun, AxisStatus, WritePoints, ClearRun, ChangeRun}
 use Rattle.table.specs.declared.Message.{Message}
-use Rattle.table.specs.Table.{Narrow}
-use Rattle.queries.specs.Replies.{headOf}
 use Rattle.calls.specs.Calls.{Areas, Call, Outcome, lengthsOf, areaIn, putIn, oldEntry, written}
+use Rattle.kinds.specs.declared.Lengths.{Lengths}
 use Rattle.refusals.specs.Refusals.{journalFits}
-use Rattle.link.specs.Answer.{held, rest, writes, newBytes, saidBy, answerOf}
+use Rattle.refusals.proofs.Rows.{AreasPass, call-passed}
+use Rattle.link.specs.Answer.{held, rest, writes, newBytes, answerOf}
 use Rattle.link.proofs.Carrying.{Fine, fine, Writable, writable}
-use Rattle.demands.specs.Survive.{content, startOf, countOf, Outside, OnlyNamed}
-use Rattle.demands.proofs.Asking.{Took, Lasting}
+use Rattle.demands.specs.History.{ours}
+use Rattle.demands.specs.Reading.{content, startOf, countOf}
+use Rattle.demands.specs.Survive.{Outside, OnlyNamed}
+use Rattle.demands.proofs.Asking.{Took, Open}
 use Rattle.demands.proofs.Journals.{journal-again}
 
 module _ (k : Kind) (start count : ℕ) (bytes area : List ℕ) (h : holds k start count ≡ true) (l : length area ≡ sizeOf k) (e : length bytes ≡ count * k .unit) where
@@ -58,7 +53,7 @@ area-size c f tag = go (eqb tag pointsTag) (eqb tag columnsTag)
     go false false = refl
 
 -- bytes of a held run stand in the area of their own kind
-put-own : (h : Held) (tag start count : ℕ) (bytes : List ℕ) (a : Areas) → 1 ≤ count → holds (kindOf h tag) start count ≡ true
+pub put-own : (h : Held) (tag start count : ℕ) (bytes : List ℕ) (a : Areas) → 1 ≤ count → holds (kindOf h tag) start count ≡ true
     → areaIn tag (putIn h (entryFor tag start bytes) a) ≡ put (kindOf h tag) start bytes (areaIn tag a)
 unfolding kindOf puts
 put-own h tag start count bytes a some = go (eqb tag pointsTag) (eqb tag columnsTag)
@@ -74,7 +69,7 @@ put-own h tag start count bytes a some = go (eqb tag pointsTag) (eqb tag columns
     go false false e = absurd (let w = within none start count e in omega (arith, w .1))
 
 -- and the area of another kind is as it was
-put-other : (h : Held) (e : Entry) (a : Areas) (tag : ℕ) → (tag ≡ e .tag → ⊥) → areaIn tag (putIn h e a) ≡ areaIn tag a
+pub put-other : (h : Held) (e : Entry) (a : Areas) (tag : ℕ) → (tag ≡ e .tag → ⊥) → areaIn tag (putIn h e a) ≡ areaIn tag a
 put-other h e a tag n = go (eqb tag pointsTag) (eqb tag columnsTag) refl refl
   where
     go : (b b′ : Bool) → eqb tag pointsTag ≡ b → eqb tag columnsTag ≡ b′
@@ -83,71 +78,46 @@ put-other h e a tag n = go (eqb tag pointsTag) (eqb tag columnsTag) refl refl
     go false true p q = sym (puts-other columnsOf e (a .columns) (λ z. n (eqb-true _ _ q ∙ sym z)))
     go false false p q = refl
 
--- false is not true
-not-so : {A : Type 0} → false ≡ true → A
-not-so e = absurd (let z : _≡_ {A = ℕ} 0 1 = ap (λ (b : Bool). cond b 1 0) e in omega arith)
-
--- the reply to a write is its head
-said-head : (a : Action) (c : Call) (m : Message) (start count : ℕ) → writes a ≡ true → saidBy a c m start count ≡ headOf m start count
-said-head SayBack c m start count w = not-so w
-said-head CountPoints c m start count w = not-so w
-said-head ListPoints c m start count w = not-so w
-said-head ReadRun c m start count w = not-so w
-said-head AxisStatus c m start count w = not-so w
-said-head WritePoints c m start count w = refl
-said-head ClearRun c m start count w = refl
-said-head ChangeRun c m start count w = refl
-
--- a head is short
-head-short : (m : Message) (start count : ℕ) → Narrow m → length (headOf m start count) ≤ 15
-head-short m start count n =
-    let p = inverse (m .program) .as-many 0 in
-    let s = inverse (m .start) .as-many start in
-    let k = inverse (m .count) .as-many count in
-    let b : length (cond (m .repeats) (digitsOf (m .program) 0 ++ (digitsOf (m .start) start ++ digitsOf (m .count) count)) []) ≤ 12 =
-    either (λ (l : List ℕ). length l ≤ 12) (m .repeats) (λ _. simp length-append (omega (arith, n .program, n .start, n .count))) (λ _. omega arith) in
-    simp length-append (omega arith)
-
 -- the kind of the things that a message names, and the bytes that it stores
 abbrev pub kindIn : Message → Call → Kind
 kindIn m c = kindOf (held c) (m .tag)
 
 abbrev pub newIn : Message → Call → List ℕ
-newIn m c = newBytes (m .does) (kindIn m c .unit) (countOf m c) (rest c m)
+newIn m c = newBytes (m .does) (kindIn m c .unit) (countOf m (c .sent)) (rest c m)
 
 -- what an accepted write leaves
 pub record Wrote (m : Message) (c : Call) : Type 0 where
-  pub run : Writable (held c) (content c) m (startOf m c) (countOf m c)
-  pub own : areaIn (m .tag) (answerOf c .areas) ≡ put (kindIn m c) (startOf m c) (newIn m c) (areaIn (m .tag) (c .areas))
-  pub only : OnlyNamed m c
+  pub run : Writable (held c) (content (c .sent)) m (startOf m (c .sent)) (countOf m (c .sent))
+  pub own : areaIn (m .tag) (answerOf c .areas) ≡ put (kindIn m c) (startOf m (c .sent)) (newIn m c) (areaIn (m .tag) (c .areas))
+  pub only : OnlyNamed ours m c
 
 module _ (m : Message) (c : Call) (t : Took m c) where
   -- the areas that an accepted message leaves
-  areas-left : (b : Bool) → writes (m .does) ≡ b → answerOf c .areas ≡ cond b (written (held c) (m .tag) (startOf m c) (countOf m c) (newIn m c) (c .areas)) (c .areas)
+  pub areas-left : (b : Bool) → writes (m .does) ≡ b → answerOf c .areas ≡ cond b (written (held c) (m .tag) (startOf m (c .sent)) (countOf m (c .sent)) (newIn m c) (c .areas)) (c .areas)
   areas-left b w =
       ap (λ (o : Outcome). o .areas) (t .answer)
-      ∙ ap (λ (x : Bool). cond x (written (held c) (m .tag) (startOf m c) (countOf m c) (newIn m c) (c .areas)) (c .areas)) w
+      ∙ ap (λ (x : Bool). cond x (written (held c) (m .tag) (startOf m (c .sent)) (countOf m (c .sent)) (newIn m c) (c .areas)) (c .areas)) w
 
   module _ (w : writes (m .does) ≡ true) where
     pub wrote : Wrote m c
     wrote =
-        let r = writable (held c) (content c) m (startOf m c) (countOf m c) (t .assured) w in
+        let r = writable (held c) (content (c .sent)) m (startOf m (c .sent)) (countOf m (c .sent)) (t .assured) w in
         let own =
-        ap (areaIn (m .tag)) (areas-left true w) ∙ put-own (held c) (m .tag) (startOf m c) (countOf m c) (newIn m c) (c .areas) (r .run .some) (r .run .held-all) in
+        ap (areaIn (m .tag)) (areas-left true w) ∙ put-own (held c) (m .tag) (startOf m (c .sent)) (countOf m (c .sent)) (newIn m c) (c .areas) (r .run .some) (r .run .held-all) in
         record {
           run = r;
           own = own;
           only =
               record {
                 outside =
-                    subst (Outside (kindIn m c) (startOf m c) (countOf m c) (areaIn (m .tag) (c .areas))) (sym own)
-                    (outside (kindIn m c) (startOf m c) (countOf m c) (newIn m c) (areaIn (m .tag) (c .areas)) (r .run .held-all) (area-size c (fine c (t .heard)) (m .tag)) (r .long));
-                others = λ tag n. ap (areaIn tag) (areas-left true w) ∙ put-other (held c) (entryFor (m .tag) (startOf m c) (newIn m c)) (c .areas) tag n;
+                    subst (Outside (kindIn m c) (startOf m (c .sent)) (countOf m (c .sent)) (areaIn (m .tag) (c .areas))) (sym own)
+                    (outside (kindIn m c) (startOf m (c .sent)) (countOf m (c .sent)) (newIn m c) (areaIn (m .tag) (c .areas)) (r .run .held-all) (area-size c (fine c (t .heard)) (m .tag)) (r .long));
+                others = λ tag n. ap (areaIn tag) (areas-left true w) ∙ put-other (held c) (entryFor (m .tag) (startOf m (c .sent)) (newIn m c)) (c .areas) tag n;
               };
         }
 
     -- the areas stay as long as they were
-    lengths-kept : lengthsOf (answerOf c .areas) ≡ lengthsOf (c .areas)
+    pub lengths-kept : lengthsOf (answerOf c .areas) ≡ lengthsOf (c .areas)
     lengths-kept = ap₂ (λ (p q : ℕ). record { points = p; columns = q }) (same pointsTag) (same columnsTag)
       where
         same : (tag : ℕ) → length (areaIn tag (answerOf c .areas)) ≡ length (areaIn tag (c .areas))
@@ -163,37 +133,39 @@ module _ (m : Message) (c : Call) (t : Took m c) where
     journal-last bs =
         let f = fine c (t .heard) in
         let r = wrote .run .run in
-        let e = oldEntry (held c) (m .tag) (startOf m c) (countOf m c) (c .areas) in
-        let l : length (e .bytes) ≡ countOf m c * kindIn m c .unit =
-        run-length (kindIn m c) (startOf m c) (countOf m c) (r .held-all) (areaIn (m .tag) (c .areas)) (area-size c f (m .tag)) in
+        let e = oldEntry (held c) (m .tag) (startOf m (c .sent)) (countOf m (c .sent)) (c .areas) in
+        let l : length (e .bytes) ≡ countOf m (c .sent) * kindIn m c .unit =
+        run-length (kindIn m c) (startOf m (c .sent)) (countOf m (c .sent)) (r .held-all) (areaIn (m .tag) (c .areas)) (area-size c f (m .tag)) in
         let g : Good (held c) e =
-        subst (λ (x : ℕ). Good (held c) (entryFor x (startOf m c) (e .bytes))) (tag-of (held c) (m .tag))
-        (good (held c) (kindIn m c) (startOf m c) (countOf m c) (e .bytes) (f .sound-held) (own-kind (held c) (m .tag)) (r .some) (r .named) (r .held-all) l) in
+        subst (λ (x : ℕ). Good (held c) (entryFor x (startOf m (c .sent)) (e .bytes))) (tag-of (held c) (m .tag))
+        (good (held c) (kindIn m c) (startOf m (c .sent)) (countOf m (c .sent)) (e .bytes) (f .sound-held) (own-kind (held c) (m .tag)) (r .some) (r .named) (r .held-all) l) in
         subst (λ (a : Areas). journalFits (held c) (a .journal) (a .kept .used) ≡ true) (sym (areas-left true w))
         (journal-again (held c) (c .areas .journal) (c .areas .kept .used) e bs (f .journal) g (omega (arith, f .journal .least, r .few-bytes)))
 
-    -- an accepted write leaves a board that the next call takes
-    pub lasts : Bytes (c .areas .journal) → Lasting c
-    lasts bs =
-        record {
-          lengths = lengths-kept;
-          journal = journal-last bs;
-          text-long =
-              rw (t .answer, said-head (m .does) c m (startOf m c) (countOf m c) w, length-reply normal (c .sent .settings .station) (headOf m (startOf m c) (countOf m c)))
-              (omega (arith, head-short m (startOf m c) (countOf m c) (t .assured .narrow)));
-        }
+  -- an accepted message leaves areas that no test refuses
+  pub open-after : Bytes (c .areas .journal) → Open (answerOf c .areas)
+  open-after bs = go (writes (m .does)) refl
+    where
+      passed : Open (c .areas)
+      passed = call-passed c (t .heard) .areas
+
+      go : (b : Bool) → writes (m .does) ≡ b → Open (answerOf c .areas)
+      go true w =
+          subst (λ (x : Lengths). AreasPass x (answerOf c .areas .journal) (answerOf c .areas .kept)) (sym (lengths-kept w))
+          (record { points = passed .points; columns = passed .columns; journal-fits = journal-last w bs })
+      go false w = subst Open (sym (areas-left false w)) passed
 
   -- an accepted message changes nothing but what it names
-  pub only-named : OnlyNamed m c
+  pub only-named : OnlyNamed ours m c
   only-named = go (writes (m .does)) refl
     where
-      go : (b : Bool) → writes (m .does) ≡ b → OnlyNamed m c
+      go : (b : Bool) → writes (m .does) ≡ b → OnlyNamed ours m c
       go true w = wrote w .only
       go false w =
           let e : c .areas ≡ answerOf c .areas = sym (areas-left false w) in
           record {
             outside =
-                subst (λ (a : Areas). Outside (kindIn m c) (startOf m c) (countOf m c) (areaIn (m .tag) (c .areas)) (areaIn (m .tag) a)) e
+                subst (λ (a : Areas). Outside (kindIn m c) (startOf m (c .sent)) (countOf m (c .sent)) (areaIn (m .tag) (c .areas)) (areaIn (m .tag) a)) e
                 (record { before-it = λ i b. refl; behind-it = λ i b. refl; as-long = refl });
             others = λ tag n. ap (areaIn tag) (sym e);
           }

@@ -130,7 +130,7 @@ module _ {held : Held} {s : Sent} (w : Writes held s) (a : Areas) (l : (t : ℕ)
       same-areas (putIn held (oldBy w a) (putIn held (entryOf w) a)) a (rw (kind-points held) at (put-back pointsTag))
       (rw (kind-columns held) at (put-back columnsTag))
 
-  long-again : (t : ℕ) → length (areaIn t (putIn held (entryOf w) a)) ≡ sizeOf (kindOf held t)
+  pub long-again : (t : ℕ) → length (areaIn t (putIn held (entryOf w) a)) ≡ sizeOf (kindOf held t)
   long-again =
       each-long held (putIn held (entryOf w) a) (rw (kind-points held) at (after-put pointsTag)) (rw (kind-columns held) at (after-put columnsTag))
 

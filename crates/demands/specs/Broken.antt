@@ -13,6 +13,7 @@ use Rattle.axes.specs.Records.{zeroRecord, eightAxes}
 use Rattle.calls.specs.Calls.{Areas, Sent, fresh, lengthsOf, putIn, withEntries}
 use Rattle.link.specs.Answer.{unanswered, answerOf, backOf}
 use Rattle.demands.specs.Cases.{holding}
+use Rattle.demands.specs.Useless.{storesNothing, storesFirst}
 use Rattle.demands.specs.History.{Conduct, ours, Event, frame, stepBack, callOn, Past, past, entries, EveryHistory}
 
 -- a frame to station 99H, all eight axes fitted
@@ -20,7 +21,7 @@ abbrev pub send : String → Sent
 send s =
     record { frame = text s; axes = eightAxes (replicate 8 zeroRecord); settings = record { station = 0x99; fitted = 0xFF }; reply = replicate 1024 0 }
 
--- the lot code 0047 from column 300 on; point 1; point 1 cleared; the count; an unknown message
+-- the lot code 0047 from column 300 on; point 1; point 1 cleared; the count; an unknown message; points 1 and 2
 abbrev pub lotCode : Sent
 lotCode = send "!9924E0012C0430303437@@\r\n"
 
@@ -36,9 +37,12 @@ count = send "!99208@@\r\n"
 abbrev pub unknown : Sent
 unknown = send "!99299@@\r\n"
 
--- one point and the least journal, from fresh
+abbrev pub twoPoints : Sent
+twoPoints = send "!9924400100201000000000000000000010100000000000000000001@@\r\n"
+
+-- two points and the least journal, from fresh
 abbrev pub smallest : Areas
-smallest = fresh (holding 1) 340
+smallest = fresh (holding 2) 380
 
 abbrev pub small : Conduct → List Event → Past
 small board events = past board (record { areas = smallest; standing-writes = [] }) events
@@ -52,8 +56,8 @@ pub record Worked : Type 0 where
   -- a second one takes away the first, and all is fresh; a third is refused
   pub all-taken : small ours (frame lotCode ∷ frame pointOne ∷ stepBack ∷ stepBack ∷ []) .areas ≡ smallest
   pub none-left : backOf (small ours (frame lotCode ∷ frame pointOne ∷ stepBack ∷ stepBack ∷ []) .areas) .number ≡ 9
-  -- eight writes of 45 bytes each: the journal has room for seven
-  pub oldest-dropped : length (entries (small ours (replicate 8 (frame clearOne)) .areas)) ≡ 7
+  -- nine writes of 45 bytes each: the journal has room for eight
+  pub oldest-dropped : length (entries (small ours (replicate 9 (frame clearOne)) .areas)) ≡ 8
 
 -- every column set to a byte
 abbrev pub columnsAll : ℕ → Areas → Areas
@@ -91,3 +95,6 @@ pub record Broken : Type 0 where
   pub refusal-writes : EveryHistory refusalWrites → ⊥
   pub forgets-entries : EveryHistory forgets → ⊥
   pub takes-nothing : EveryHistory takesNothing → ⊥
+  -- "demand 3 counts whole writes": boards that journal and step back as they should
+  pub stores-first : EveryHistory storesFirst → ⊥
+  pub stores-nothing : EveryHistory storesNothing → ⊥

@@ -8,11 +8,15 @@ use mathlib.Core.List.{List, [], _∷_, _++_}
 use lib.Dec.{eqb}
 use lib.ListN.{length}
 use Rattle.kinds.specs.declared.Held.{Held}
-use Rattle.kinds.specs.Kinds.{heldIn, Sound}
-use Rattle.journal.specs.Journal.{Entry, encodes, added, areaOf, lastEntry, others}
-use Rattle.calls.specs.Calls.{Areas, Sent, Call, Outcome, fresh, lengthsOf, areaIn, entriesOf}
+use Rattle.kinds.specs.Kinds.{kindOf, heldIn, Sound}
+use Rattle.frames.specs.Frame.{contentIn}
+use Rattle.journal.specs.Journal.{Entry, encodes, added, areaOf, lastEntry, others, entryFor}
+use Rattle.table.specs.declared.Named.{Named}
+use Rattle.table.specs.declared.Named.the-variants.{Known, Unknown}
+use Rattle.table.specs.Table.{messageOf, startIn, countIn, restIn}
+use Rattle.calls.specs.Calls.{Areas, Sent, Call, Outcome, fresh, lengthsOf, areaIn, putIn, entriesOf}
 use Rattle.refusals.specs.Refusals.{leastJournal}
-use Rattle.link.specs.Answer.{asked, answerOf, backOf}
+use Rattle.link.specs.Answer.{newBytes, asked, answerOf, backOf}
 use Rattle.demands.specs.Refused.{asksWrite}
 
 -- what a board does: the outcome of a frame, and of a step back
@@ -47,6 +51,18 @@ pub record Past : Type 0 where
 -- the entries in the journal
 abbrev pub entries : Areas → List Entry
 entries a = entriesOf (heldIn (lengthsOf a)) a
+
+-- the run that a message with its content says, whatever a board makes of it: its kind's tag, its start number and the bytes to store ("Each
+-- message": the slots of its points, zero bytes, a byte for each pair of digits); an unknown one says none
+abbrev pub runSaid : Held → Named → List ℕ → Entry
+runSaid held Unknown content = entryFor 0 0 []
+runSaid held (Known m) content =
+    entryFor (m .tag) (startIn m content) (newBytes (m .does) (kindOf held (m .tag) .unit) (countIn m content) (restIn m content))
+
+-- an account of writes that no board gives: the runs that they say, whole, put into areas one after the other
+abbrev pub account : Held → Areas → List Sent → Areas
+account held a [] = a
+account held a (s ∷ ss) = account held (putIn held (runSaid held (messageOf (s .frame)) (contentIn (s .frame))) a) ss
 
 module _ (board : Conduct) where
   -- the areas after an event
@@ -84,6 +100,8 @@ module _ (board : Conduct) where
   pub record Holds (held : Held) (size : ℕ) (p : Past) : Type 0 where
     -- "points and columns are exactly what the accepted writes not taken back would leave if done alone, in order, from fresh": the area of each kind
     pub things : (tag : ℕ) → areaIn tag (p .areas) ≡ areaIn tag (alone (fresh held size) (p .standing-writes))
+    -- and the account of these writes says the same, so each is done whole ("demand 3 counts whole writes")
+    pub whole-writes : (tag : ℕ) → areaIn tag (p .areas) ≡ areaIn tag (account held (fresh held size) (p .standing-writes))
     pub accepted-alone : allAccepted (fresh held size) (p .standing-writes) ≡ true
     -- the journal holds the entries of the newest of these writes, older ones were dropped; 00 stands behind them
     pub dropped : List Entry
@@ -100,8 +118,11 @@ module _ (board : Conduct) where
     pub accepted : (entries (p .areas) ≡ [] → ⊥) ↔ (board .back (p .areas) .number ≡ 0)
     pub refused : (entries (p .areas) ≡ []) ↔ (board .back (p .areas) .number ≡ 9)
 
-  -- "with areas of the lengths document 01 asks", after any events
-  abbrev pub EveryHistory : Type 0
-  EveryHistory =
+  -- what is so "with areas of the lengths document 01 asks", from fresh, "after any sequence of frames and steps back"
+  abbrev pub AfterAny : (Held → ℕ → Past → Type 0) → Type 0
+  AfterAny Is =
       (held : Held) (size : ℕ) → Sound held → leastJournal held ≤ size → size ≤ 65536
-      → (events : List Event) → Holds held size (past (record { areas = fresh held size; standing-writes = [] }) events)
+      → (events : List Event) → Is held size (past (record { areas = fresh held size; standing-writes = [] }) events)
+
+  abbrev pub EveryHistory : Type 0
+  EveryHistory = AfterAny Holds

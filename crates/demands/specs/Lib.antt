@@ -1,9 +1,11 @@
 pub mod Refused
 pub mod Sole
 pub mod Cases
-pub mod Useless
 pub mod Replied
-pub mod Survive
 pub mod History
+pub mod Reading
+pub mod Survive
+pub mod Useless
 pub mod Broken
+pub mod SurviveExamples
 pub mod Examples

@@ -1,13 +1,68 @@
--- Document 01, "What the promises say": "Try these useless boards against it". Each is ruled out by a call of the bench.
-use Prim.Native.Nat.{ℕ}
+-- Document 01, "What the promises say": "Try these useless boards against it". Each is named by what is wrong with it, whatever else it does, and is
+-- ruled out by the contract of `answer` and, where document 01 says so, by demand 2.
+use Prim.Native.Nat.{ℕ, suc, _+_, _-_}
 use mathlib.Core.Path.{_≡_}
-use mathlib.Core.List.{List}
-use lib.ListN.{length, take, drop}
+use mathlib.Core.Bool.{true, cond, _&&_}
+use mathlib.Core.List.{List, _∷_}
+use lib.Dec.{eqb}
+use lib.ListN.{length, take}
 use Rattle.digits.specs.Laid.{laid}
-use Rattle.calls.specs.Calls.{Areas, Call}
+use Rattle.digits.specs.Text.{text}
+use Rattle.frames.specs.Frame.{normal, messageIn, replyOf}
+use Rattle.kinds.specs.Kinds.{pointsOf, runOf, put}
+use Rattle.journal.specs.Journal.{encodes, added}
+use Rattle.points.specs.Point.{slotsOf}
+use Rattle.table.specs.declared.Message.{Message}
+use Rattle.messages.specs.declared.Asked.{Asked}
+use Rattle.messages.specs.declared.Asked.the-variants.{Refused, Order}
+use Rattle.calls.specs.Calls.{Areas, Call, Outcome, areasOf, entriesOf, oldEntry}
 use Rattle.link.specs.declared.Answered.{Answered}
-use Rattle.link.specs.Answer.{answerOf}
+use Rattle.link.specs.Answer.{held, asked, rest, writes, unanswered, answerOf, backOf}
 use Rattle.link.specs.Contract.{Answers}
+use Rattle.demands.specs.History.{Conduct}
+use Rattle.demands.specs.Reading.{startOf, countOf}
+use Rattle.demands.specs.Survive.{Accepted, EveryDigitSurvives}
+
+-- "one that refuses all frames"
+abbrev pub RefusesAll : (Call → Outcome) → Type 0
+RefusesAll answer = (c : Call) → answer c .number ≡ 0 → ⊥
+
+-- "one with a constant reply": to all frames that it accepts
+abbrev pub SameReply : (Call → Outcome) → Type 0
+SameReply answer = (c d : Call) → answer c .number ≡ 0 → answer d .number ≡ 0 → answer c .text ≡ answer d .text
+
+-- "one that stores nothing": no point changes
+abbrev pub StoresNothing : (Call → Outcome) → Type 0
+StoresNothing answer = (c : Call) → answer c .areas .points ≡ c .areas .points
+
+-- "one that stores a bulk write's first point and only acknowledges the rest": the slots that a 244H names, from the second on, stay
+abbrev pub behindFirst : Message → Call → List ℕ → List ℕ
+behindFirst m c points = runOf (pointsOf (held c)) (suc (startOf m (c .sent))) (countOf m (c .sent) - 1) points
+
+abbrev pub StoresFirst : (Call → Outcome) → Type 0
+StoresFirst answer =
+    (c : Call) (a : Accepted 0x244 c) → behindFirst (a .message) c (answer c .areas .points) ≡ behindFirst (a .message) c (c .areas .points)
+
+-- "one that invents the 208H count": where the count is asked, and told, it is the same whatever the points
+abbrev pub InventsCount : (Call → Outcome) → Type 0
+InventsCount answer =
+    (c d : Call) → messageIn (c .sent .frame) ≡ text "208" → c .sent .frame ≡ d .sent .frame → c .sent .settings .station ≡ d .sent .settings .station
+    → answer c .number ≡ 0 → answer d .number ≡ 0 → answer c .text ≡ answer d .text
+
+-- "or the used length (the journal rule)": after some accepted write it is not that of the journal with the write's entry added
+abbrev pub usedAfter : Message → Call → ℕ
+usedAfter m c =
+    length
+    (encodes
+    (added (length (c .areas .journal)) (entriesOf (held c) (c .areas))
+    (oldEntry (held c) (m .tag) (startOf m (c .sent)) (countOf m (c .sent)) (c .areas))))
+
+pub record InventsUsed (answer : Call → Outcome) : Type 0 where
+  pub id : ℕ
+  pub call : Call
+  pub accepted : Accepted id call
+  pub is-write : writes (accepted .message .does) ≡ true
+  pub other : answer call .areas .kept .used ≡ usedAfter (accepted .message) call → ⊥
 
 -- all that a board gives for a call
 pub record Given : Type 0 where
@@ -22,9 +77,14 @@ Board = Call → Given
 abbrev pub Meets : Board → Type 0
 Meets board = (c : Call) → Answers c (board c .answered) (board c .areas) (board c .reply)
 
--- the bytes that it replies
-abbrev pub repliedBy : Board → Call → List ℕ
-repliedBy board c = take (board c .answered .length) (board c .reply)
+-- its outcome: the number, the bytes that it replies, the areas with the used length that it hands on
+abbrev pub outcomeBy : Board → Call → Outcome
+outcomeBy board c =
+    record {
+      number = board c .answered .number;
+      text = take (board c .answered .length) (board c .reply);
+      areas = areasOf (board c .areas .points) (board c .areas .columns) (board c .areas .journal) (board c .answered .kept);
+    }
 
 -- a board that does what is asked
 abbrev pub honest : Board
@@ -35,21 +95,79 @@ honest c =
       reply = laid (c .sent .reply) 0 (answerOf c .text);
     }
 
+-- the contract rules them out; it can be met, so it isn't for an empty reason
 pub record Useless : Type 0 where
-  -- the contract can be met, so it isn't for an empty reason that these do not
   pub can-be-met : Meets honest
-  -- "one that refuses all frames"
-  pub refuses-all : (board : Board) → ((c : Call) → board c .answered .number ≡ 0 → ⊥) → Meets board → ⊥
-  -- "one with a constant reply"
-  pub same-reply : (board : Board) → ((c d : Call) → repliedBy board c ≡ repliedBy board d) → Meets board → ⊥
-  -- "one that stores nothing"
-  pub stores-nothing : (board : Board) → ((c : Call) → board c .areas .points ≡ c .areas .points) → Meets board → ⊥
-  -- "one that stores a bulk write's first point and only acknowledges the rest": the points behind the first slot stay
-  pub stores-first : (board : Board) → ((c : Call) → drop 40 (board c .areas .points) ≡ drop 40 (c .areas .points)) → Meets board → ⊥
-  -- "one that invents the 208H count": its reply does not depend on the points
-  pub invents-count :
-      (board : Board)
-      → ((c d : Call) → c .sent .frame ≡ d .sent .frame → c .sent .settings .station ≡ d .sent .settings .station → repliedBy board c ≡ repliedBy board d)
-      → Meets board → ⊥
-  -- "or the used length": one number for all calls
-  pub invents-used : (board : Board) → ((c d : Call) → board c .answered .kept .used ≡ board d .answered .kept .used) → Meets board → ⊥
+  pub refuses-all : (board : Board) → RefusesAll (outcomeBy board) → Meets board → ⊥
+  pub same-reply : (board : Board) → SameReply (outcomeBy board) → Meets board → ⊥
+  pub stores-nothing : (board : Board) → StoresNothing (outcomeBy board) → Meets board → ⊥
+  pub stores-first : (board : Board) → StoresFirst (outcomeBy board) → Meets board → ⊥
+  pub invents-count : (board : Board) → InventsCount (outcomeBy board) → Meets board → ⊥
+  pub invents-used : (board : Board) → InventsUsed (outcomeBy board) → Meets board → ⊥
+
+-- "demand 2 shuts out all three", the board that stores the first point only, and the one that invents the count: "slots are counted"
+pub record ShutOut : Type 0 where
+  pub refuses-all : (board : Conduct) → RefusesAll (board .answer) → EveryDigitSurvives board → ⊥
+  pub same-reply : (board : Conduct) → SameReply (board .answer) → EveryDigitSurvives board → ⊥
+  pub stores-nothing : (board : Conduct) → StoresNothing (board .answer) → EveryDigitSurvives board → ⊥
+  pub stores-first : (board : Conduct) → StoresFirst (board .answer) → EveryDigitSurvives board → ⊥
+  pub invents-count : (board : Conduct) → InventsCount (board .answer) → EveryDigitSurvives board → ⊥
+
+-- such boards, each honest in all else
+abbrev pub honestBut : (Call → Outcome → Outcome) → Conduct
+honestBut change = record { answer = λ c. change c (answerOf c); back = backOf }
+
+abbrev pub saying : List ℕ → Outcome → Outcome
+saying said o = record { number = o .number; text = said; areas = o .areas }
+
+abbrev pub storing : List ℕ → List ℕ → Outcome → Outcome
+storing points columns o = record { number = o .number; text = o .text; areas = areasOf points columns (o .areas .journal) (o .areas .kept) }
+
+abbrev pub handing : ℕ → Outcome → Outcome
+handing used o =
+    record { number = o .number; text = o .text; areas = areasOf (o .areas .points) (o .areas .columns) (o .areas .journal) (record { used = used }) }
+
+-- a 244H that is accepted stores the slot of its first point alone
+abbrev pub firstOnly : Call → Asked → Outcome → Outcome
+firstOnly c (Refused number) o = o
+firstOnly c (Order m start count) o =
+    cond (eqb (m .id) 0x244 && eqb (o .number) 0)
+    (storing (put (pointsOf (held c)) start (slotsOf 1 (rest c m)) (c .areas .points)) (o .areas .columns) o)
+    o
+
+-- a 208H that is accepted tells five
+abbrev pub tellsFive : Call → Asked → Outcome → Outcome
+tellsFive c (Refused number) o = o
+tellsFive c (Order m start count) o =
+    cond (eqb (m .id) 0x208 && eqb (o .number) 0) (saying (replyOf normal (c .sent .settings .station) (text "208005")) o) o
+
+abbrev pub refuser : Conduct
+refuser = honestBut (λ c o. unanswered 8 (c .areas))
+
+abbrev pub parrot : Conduct
+parrot = honestBut (λ c o. saying (text "#9920000123456782B\r\n") o)
+
+abbrev pub storesNothing : Conduct
+storesNothing = honestBut (λ c o. storing (c .areas .points) (c .areas .columns) o)
+
+abbrev pub storesFirst : Conduct
+storesFirst = honestBut (λ c o. firstOnly c (asked c) o)
+
+abbrev pub fiveAlways : Conduct
+fiveAlways = honestBut (λ c o. tellsFive c (asked c) o)
+
+-- the journal's length for the used length, and one more than it should be
+abbrev pub usedAll : Conduct
+usedAll = honestBut (λ c o. handing (length (c .areas .journal)) o)
+
+abbrev pub usedMore : Conduct
+usedMore = honestBut (λ c o. handing (o .areas .kept .used + 1) o)
+
+pub record Made : Type 0 where
+  pub refuses-all : RefusesAll (refuser .answer)
+  pub same-reply : SameReply (parrot .answer)
+  pub stores-nothing : StoresNothing (storesNothing .answer)
+  pub stores-first : StoresFirst (storesFirst .answer)
+  pub invents-count : InventsCount (fiveAlways .answer)
+  pub used-all : InventsUsed (usedAll .answer)
+  pub used-more : InventsUsed (usedMore .answer)

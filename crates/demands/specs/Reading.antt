@@ -1,0 +1,140 @@
+-- Demand 2: how a board is asked, and what its answers say of the numbers that a write named.
+use Prim.Native.Nat.{ℕ, zero, suc, _+_, _-_, _*_, _<_, _≤_}
+use mathlib.Core.Path.{_≡_}
+use mathlib.Core.Bool.{Bool, true, cond, not, _&&_, _||_}
+use mathlib.Core.List.{List, [], _∷_, _++_}
+use lib.Dec.{leb, eqb}
+use lib.ListN.{length, take, drop, getD}
+use Rattle.digits.specs.Digits.{digitsOf}
+use Rattle.digits.specs.Text.{text}
+use Rattle.frames.specs.Frame.{command, normal, CR, LF, contentIn, scOf, replyOf}
+use Rattle.kinds.specs.Kinds.{pointsTag, columnsTag, columnsOf, heldIn, holds}
+use Rattle.points.specs.Point.{lengthOf, effectiveIn}
+use Rattle.table.specs.declared.Message.{Message}
+use Rattle.table.specs.declared.Named.{Named}
+use Rattle.table.specs.declared.Named.the-variants.{Known, Unknown}
+use Rattle.table.specs.Table.{messageOf, startIn, countIn, restIn}
+use Rattle.listing.specs.Listing.{joined}
+use Rattle.calls.specs.Calls.{Areas, Sent, Call, callOf, lengthsOf}
+use Rattle.refusals.specs.Refusals.{axesFit}
+use Rattle.demands.specs.History.{Conduct}
+
+-- a frame's content ("Frame"), and the start number, the count and what follows them as its message reads these ("Each message")
+abbrev pub content : Sent → List ℕ
+content s = contentIn (s .frame)
+
+abbrev pub startOf : Message → Sent → ℕ
+startOf m s = startIn m (content s)
+
+abbrev pub countOf : Message → Sent → ℕ
+countOf m s = countIn m (content s)
+
+abbrev pub restOf : Message → Sent → List ℕ
+restOf m s = restIn m (content s)
+
+-- a command ("Frame"): header, station, ID and content, an SC that is true or '@@', CR LF
+abbrev pub before : ℕ → List ℕ → List ℕ
+before station said = command ∷ (digitsOf 2 station ++ said)
+
+abbrev pub commandOf : Bool → ℕ → List ℕ → List ℕ
+commandOf checked station said = before station said ++ (cond checked (scOf (before station said)) (text "@@") ++ (CR ∷ LF ∷ []))
+
+-- a host that is heard, whatever it sends: its reply area is long enough (refusal 1), its axes fit (5), and two digits write its station
+pub record Host (h : Sent) : Type 0 where
+  pub reply-long : 1024 ≤ length (h .reply)
+  pub axes-fit : axesFit (h .axes) (h .settings .fitted) ≡ true
+  pub station-byte : h .settings .station < 256
+
+-- what it asks of areas
+abbrev pub asking : Areas → Sent → Bool → List ℕ → Call
+asking a h checked asked = callOf (commandOf checked (h .settings .station) asked) (h .axes) (h .settings) (h .reply) a
+
+-- asked this over areas, by any such host, with a true SC or with '@@', a board accepts it ("An accepted call has number 0") and says that
+pub record Says (board : Conduct) (a : Areas) (asked said : List ℕ) : Type 0 where
+  pub number : (h : Sent) → Host h → (checked : Bool) → board .answer (asking a h checked asked) .number ≡ 0
+  pub text : (h : Sent) → Host h → (checked : Bool) → board .answer (asking a h checked asked) .text ≡ replyOf normal (h .settings .station) said
+
+-- a message with its content names none of so many numbers of a kind: it names another kind, or numbers before them, or behind them
+abbrev pub spares : ℕ → ℕ → ℕ → Named → List ℕ → Bool
+spares tag number many Unknown content = true
+spares tag number many (Known m) content =
+    not (eqb (m .tag) tag) || (leb (startIn m content + countIn m content) number || leb (number + many) (startIn m content))
+
+-- no later write touches them
+abbrev pub untouched : ℕ → ℕ → ℕ → List Sent → Bool
+untouched tag number many [] = true
+untouched tag number many (s ∷ later) = spares tag number many (messageOf (s .frame)) (content s) && untouched tag number many later
+
+-- 210H of columns: program number 00, start and count; the reply repeats these ("Each message")
+abbrev pub asksColumns : ℕ → ℕ → List ℕ
+asksColumns start count = text "21000" ++ (digitsOf 3 start ++ digitsOf 2 count)
+
+-- the two digits each of so many columns, in digits whose first column is a given one
+abbrev pub digitsFrom : ℕ → ℕ → ℕ → List ℕ → List ℕ
+digitsFrom first number many digits = take (2 * many) (drop (2 * (number - first)) digits)
+
+-- a 210H of some columns says, of all those that a 24EH changed and no later write touched, the very digits that were sent, in their place
+pub record ColumnsSaid (board : Conduct) (a : Areas) (m : Message) (s : Sent) (later : List Sent) (start count : ℕ) : Type 0 where
+  pub digits : List ℕ
+  pub says : Says board a (asksColumns start count) (asksColumns start count ++ digits)
+  pub as-many : length digits ≡ 2 * count
+  pub in-place :
+      (number many : ℕ) → startOf m s ≤ number → number + many ≤ startOf m s + countOf m s → start ≤ number → number + many ≤ start + count
+      → untouched columnsTag number many later ≡ true → digitsFrom start number many digits ≡ digitsFrom (startOf m s) number many (restOf m s)
+
+-- "Each message", after a 24EH: a 210H of the same columns says the very content that was sent; so, in their place, does one of any part of them, and
+-- of any columns that hold them or a part of them
+pub record CodesRead (board : Conduct) (a : Areas) (m : Message) (s : Sent) (later : List Sent) : Type 0 where
+  pub kind : m .tag ≡ columnsTag
+  pub whole : untouched columnsTag (startOf m s) (countOf m s) later ≡ true → Says board a (text "210" ++ take 7 (content s)) (text "210" ++ content s)
+  pub any-run : (start count : ℕ) → 1 ≤ count → count ≤ 255 → holds columnsOf start count ≡ true → ColumnsSaid board a m s later start count
+
+-- the points that a 244H's digits send, each with its number before its very digits (as 209H lists them, 4-3-5)
+unfoldable pub sent : ℕ → ℕ → List ℕ → List (List ℕ)
+sent zero number digits = []
+sent (suc count) number digits = (digitsOf 3 number ++ take (lengthOf digits) digits) ∷ sent count (suc number) (drop (lengthOf digits) digits)
+
+abbrev pub sentBy : Message → Sent → List (List ℕ)
+sentBy m s = sent (countOf m s) (startOf m s) (restOf m s)
+
+-- the leading ones that fit into so much room ("as many leading ones as keep the reply within 1,024 bytes")
+unfoldable pub fitting : ℕ → List (List ℕ) → List (List ℕ)
+fitting room [] = []
+fitting room (s ∷ ss) = cond (leb (length s) room) (s ∷ fitting (room - length s) ss) []
+
+-- what a 209H lists: how many, and each
+abbrev pub lists : List (List ℕ) → List ℕ
+lists points = text "209" ++ (digitsOf 3 (length points) ++ joined points)
+
+-- 209H of one point
+abbrev pub asksPoint : ℕ → List ℕ
+asksPoint number = text "209" ++ (digitsOf 3 number ++ text "001")
+
+-- "Each message", after a 244H: a 209H of the same points lists each, as many as fit, with the very digits that were sent; and of any one of them, its own
+pub record PointsRead (board : Conduct) (a : Areas) (m : Message) (s : Sent) (later : List Sent) : Type 0 where
+  pub kind : m .tag ≡ pointsTag
+  pub listed :
+      untouched pointsTag (startOf m s) (countOf m s) later ≡ true → Says board a (text "209" ++ take 6 (content s)) (lists (fitting 1011 (sentBy m s)))
+  pub each :
+      (i : ℕ) → i < countOf m s → untouched pointsTag (startOf m s + i) 1 later ≡ true
+      → Says board a (asksPoint (startOf m s + i)) (lists (getD (sentBy m s) i [] ∷ []))
+
+-- "Each message", after a 246H: those points are not listed, all of them and each
+pub record PointsGone (board : Conduct) (a : Areas) (m : Message) (s : Sent) (later : List Sent) : Type 0 where
+  pub kind : m .tag ≡ pointsTag
+  pub listed : untouched pointsTag (startOf m s) (countOf m s) later ≡ true → Says board a (text "209" ++ content s) (text "209000")
+  pub each :
+      (i : ℕ) → i < countOf m s → untouched pointsTag (startOf m s + i) 1 later ≡ true → Says board a (asksPoint (startOf m s + i)) (text "209000")
+
+-- what is read, over areas, of the numbers that a write named, where later writes have not touched them
+pub record Reads (board : Conduct) (a : Areas) (m : Message) (s : Sent) (later : List Sent) : Type 0 where
+  pub codes : m .id ≡ 0x24E → CodesRead board a m s later
+  pub points : m .id ≡ 0x244 → PointsRead board a m s later
+  pub cleared : m .id ≡ 0x246 → PointsGone board a m s later
+
+-- "slots with a non-zero pattern", which 208H says
+abbrev pub effectiveOf : Areas → ℕ
+effectiveOf a = effectiveIn (heldIn (lengthsOf a) .points) (a .points)
+
+abbrev pub Counts : Conduct → Areas → Type 0
+Counts board a = Says board a (text "208") (text "208" ++ digitsOf 3 (effectiveOf a))

@@ -1,0 +1,67 @@
+-- Demand 2 worked through by computing: calls and a history that meet its premises, and what is read after them.
+use Prim.Native.Nat.{ℕ}
+use mathlib.Core.Path.{_≡_}
+use mathlib.Core.Bool.{true, false}
+use mathlib.Core.List.{List, [], _∷_, _++_}
+use lib.ListN.{take, replicate}
+use Rattle.digits.specs.Text.{text}
+use Rattle.frames.specs.Frame.{normal, replyOf}
+use Rattle.kinds.specs.Kinds.{columnsTag}
+use Rattle.listing.specs.Listing.{joined}
+use Rattle.calls.specs.Calls.{Areas, Sent, Call}
+use Rattle.link.specs.Answer.{answerOf}
+use Rattle.demands.specs.Cases.{bench, blank}
+use Rattle.demands.specs.History.{ours, Event, frame, stepBack}
+use Rattle.demands.specs.Reading.{Host, untouched}
+use Rattle.demands.specs.Survive.{Accepted}
+use Rattle.demands.specs.Broken.{send, lotCode, pointOne, clearOne, count, small}
+
+-- each to a fresh bench: a 24EH of the lot code 0047, the bench listing's 244H of point 1, a 246H of point 1, a 244H of 45 one-axis points
+abbrev pub codeCall : Call
+codeCall = bench blank (text "!9924E0012C0430303437@@\r\n")
+
+abbrev pub pointCall : Call
+pointCall = bench blank (text "!9924400100103001E001E00640000C350FFFFFFFFF3\r\n")
+
+abbrev pub clearCall : Call
+clearCall = bench blank (text "!99246001001@@\r\n")
+
+abbrev pub manyCall : Call
+manyCall = bench blank (text "!9924400102D" ++ (joined (replicate 44 (text "0100000000000000000001")) ++ text "010000000000000000002D@@\r\n"))
+
+-- column 302 changed, and a history of a small board: the lot code, column 302, a step back, point 1, the count
+abbrev pub oneColumn : Sent
+oneColumn = send "!9924E0012E0141@@\r\n"
+
+abbrev pub events : List Event
+events = frame lotCode ∷ frame oneColumn ∷ stepBack ∷ frame pointOne ∷ frame count ∷ []
+
+-- what is replied over areas
+abbrev pub replied : Areas → List ℕ → List ℕ
+replied a asked = answerOf (bench a asked) .text
+
+pub record Examples : Type 0 where
+  pub host : Host (codeCall .sent)
+  pub code : Accepted 0x24E codeCall
+  pub point : Accepted 0x244 pointCall
+  pub clear : Accepted 0x246 clearCall
+  pub many : Accepted 0x244 manyCall
+  -- the frame of proved case 7; columns 301 and 302 of these; columns 300 to 305
+  pub code-back : replied (answerOf codeCall .areas) (text "!992100012C0490\r\n") ≡ text "#992100012C043030343729\r\n"
+  pub code-part : replied (answerOf codeCall .areas) (text "!992100012D02@@\r\n") ≡ replyOf normal 0x99 (text "2100012D023034")
+  pub code-within : replied (answerOf codeCall .areas) (text "!992100012C06@@\r\n") ≡ replyOf normal 0x99 (text "2100012C06303034370000")
+  -- a 209H of point 1
+  pub point-back : replied (answerOf pointCall .areas) (text "!99209001001@@\r\n") ≡ replyOf normal 0x99 (text "20900100103001E001E00640000C350FFFFFFFF")
+  pub clear-back : replied (answerOf clearCall .areas) (text "!99209001001@@\r\n") ≡ replyOf normal 0x99 (text "209000")
+  -- of the 45 points a 209H lists 40, and the last one is read alone
+  pub many-listed : take 9 (replied (answerOf manyCall .areas) (text "!9920900102D@@\r\n")) ≡ text "#99209028"
+  pub last-read : replied (answerOf manyCall .areas) (text "!9920902D001@@\r\n") ≡ replyOf normal 0x99 (text "20900102D010000000000000000002D")
+  -- after the history the lot code stands, no later write touches it, and it is read with every digit
+  pub stands : small ours events .standing-writes ≡ [] ++ (lotCode ∷ pointOne ∷ [])
+  pub not-touched : untouched columnsTag 300 4 (pointOne ∷ []) ≡ true
+  pub still-read : replied (small ours events .areas) (text "!992100012C0490\r\n") ≡ text "#992100012C043030343729\r\n"
+  -- with column 302 changed behind it, and standing, the first two columns still are its own
+  pub touched : untouched columnsTag 300 4 (oneColumn ∷ []) ≡ false
+  pub first-two : untouched columnsTag 300 2 (oneColumn ∷ []) ≡ true
+  pub two-read :
+      replied (small ours (frame lotCode ∷ frame oneColumn ∷ []) .areas) (text "!992100012C0490\r\n") ≡ replyOf normal 0x99 (text "2100012C0430304137")
