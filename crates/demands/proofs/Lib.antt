@@ -4,6 +4,7 @@ pub mod Computing
 pub mod Worked
 pub mod Replied
 pub mod Parts
+pub mod Lengths
 pub mod Shaped
 pub mod Wrote
 pub mod Histories

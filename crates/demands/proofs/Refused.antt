@@ -1,7 +1,7 @@
 -- Demand 1, from the table and the outcome.
 use Prim.Native.Nat.{ℕ, _≤_, _<_}
 use mathlib.Core.Path.{_≡_, refl, sym, ap, _∙_, subst}
-use mathlib.Core.Bool.{false}
+use mathlib.Core.Bool.{true, false}
 use mathlib.Core.List.{List, [], _∷_}
 use native.Mathlib.Omega.{arith}
 use lib.Dec.{eqb}
@@ -21,11 +21,11 @@ use Rattle.messages.specs.declared.Asked.the-variants.{Refused, Order}
 use Rattle.messages.specs.Rows.{Row, firstOf}
 use Rattle.table.specs.Table.{messageOf}
 use Rattle.messages.specs.Asked.{askedRows, numberGiven}
-use Rattle.calls.specs.Calls.{Areas, Call, Outcome}
-use Rattle.refusals.specs.Refusals.{areaRows, frameRows, silentRows, silent, silentOf, backRefusalOf}
+use Rattle.calls.specs.Calls.{Areas, Call, Outcome, lengthsOf}
+use Rattle.refusals.specs.Refusals.{areaRows, frameRows, silentRows, silent, silentOf, backRows, backRefusalOf}
 use Rattle.link.specs.Answer.{held, asked, areasAfter, textOf, unanswered, answerOf, backOf}
 use Rattle.link.proofs.Answering.{frame-number, asked-number, heard-number}
-use Rattle.demands.specs.Refused.{OneNumber, ChangesNothing, OneReply, ErrorsAgree, asksWrite, QueryChangesNothing}
+use Rattle.demands.specs.Refused.{OneNumber, frameNumbers, backNumbers, among, NoOtherNumber, ChangesNothing, OneReply, ErrorsAgree, asksWrite, QueryChangesNothing}
 
 -- an answer, by whether its frame was heard
 pub answer-either : (c : Call) (P : Outcome → Type 0)
@@ -86,6 +86,35 @@ asked-high : (c : Call) → (numberGiven (asked c) ≡ 0 → ⊥) → 101 ≤ nu
 asked-high c n =
     rw (asked-number c)
     (high (held c) (c .sent .settings .fitted) (messageOf (c .sent .frame)) (contentIn (c .sent .frame)) (λ e. n (asked-number c ∙ e)))
+
+-- each row's number is one of the list
+abbrev Listed : List ℕ → ℕ → Type 0
+Listed ns n = among n ns ≡ true
+
+silent-listed : (c : Call) → Listed frameNumbers (silentOf c)
+unfolding silentOf silentRows areaRows frameRows
+silent-listed c = number-given (Listed frameNumbers) (silent c) refl (refl, (refl, (refl, (refl, (refl, (refl, (refl, (refl, tt))))))))
+
+asked-listed : (held : Held) (fitted : ℕ) (n : Named) (content : List ℕ) → Listed frameNumbers (firstOf (askedRows held fitted n content))
+unfolding askedRows
+asked-listed held fitted Unknown content = refl
+asked-listed held fitted (Known m) content =
+    number-given (Listed frameNumbers) (askedRows held fitted (Known m) content) refl (refl, (refl, (refl, (refl, (refl, (refl, tt))))))
+
+back-listed : (a : Areas) → Listed backNumbers (backRefusalOf a)
+unfolding backRefusalOf backRows areaRows
+back-listed a = number-given (Listed backNumbers) (backRows (lengthsOf a) (a .journal) (a .kept)) refl (refl, (refl, (refl, (refl, tt))))
+
+pub no-other-number : NoOtherNumber
+no-other-number =
+    record {
+      frame = λ c.
+          answer-either c (λ (o : Outcome). Listed frameNumbers (o .number))
+          (λ _.
+          rw (asked-number c) (asked-listed (held c) (c .sent .settings .fitted) (messageOf (c .sent .frame)) (contentIn (c .sent .frame))))
+          (λ _. silent-listed c);
+      back = λ a. rw (back-number a) (back-listed a);
+    }
 
 text-none : (c : Call) → (answerOf c .number ≡ 0 → ⊥) → answerOf c .number < 100 → answerOf c .text ≡ []
 text-none c =

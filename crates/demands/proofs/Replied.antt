@@ -1,8 +1,10 @@
 -- Every reply is closed by `replyOf`.
 use Prim.Native.Nat.{ℕ}
-use mathlib.Core.Path.{_≡_, refl, ap, _∙_}
+use mathlib.Core.Path.{_≡_, refl, sym, ap, _∙_, subst}
 use mathlib.Core.Bool.{false}
 use mathlib.Core.List.{List, [], _++_}
+use native.Mathlib.Omega.{arith}
+use lib.ListN.{getD}
 use borrow.Author.Tests.{ne-eqb}
 use Rattle.digits.specs.Digits.{isDigit, worthOf, byteOf}
 use Rattle.digits.specs.Text.{text}
@@ -18,9 +20,9 @@ use Rattle.table.specs.Table.{row, messageNumbered, messageOf}
 use Rattle.messages.specs.Asked.{askedOf, numberGiven}
 use Rattle.messages.proofs.Judged.{refused-some, told}
 use Rattle.calls.specs.Calls.{Call, Outcome}
-use Rattle.link.specs.Answer.{held, asked, textOf}
+use Rattle.link.specs.Answer.{held, asked, textOf, answerOf}
 use Rattle.link.proofs.Answering.{accepted, heard-answer}
-use Rattle.demands.specs.Replied.{headerOf, Framed, EveryReply, TestCallBack}
+use Rattle.demands.specs.Replied.{headerOf, Framed, EveryReply, NormalReply, TestCallBack}
 use Rattle.demands.proofs.Refused.{answer-either}
 
 -- what is asked is answered by a reply: no refusal has number 0
@@ -34,6 +36,23 @@ every-reply c =
     answer-either c (λ (o : Outcome). (o .text ≡ [] → ⊥) → Framed (o .number) (c .sent .settings .station) (o .text))
     (λ _ _. asked-framed c (asked c) (refused-some (held c) (c .sent .settings .fitted) (c .sent .frame)))
     (λ _ n. absurd (n refl))
+
+-- what is accepted is answered by a normal reply
+normal-framed : (c : Call) → answerOf c .number ≡ 0 → Framed 0 (c .sent .settings .station) (answerOf c .text)
+normal-framed c n =
+    let a = accepted c n in
+    let e = ap (λ (o : Outcome). o .text) (heard-answer c (a .heard)) ∙ ap (textOf c) (a .order) in
+    subst (Framed 0 (c .sent .settings .station)) (sym e) (asked-framed c (Order (a .message) (a .start) (a .count)) not-refused)
+  where
+    not-refused : {m : Message} {start count : ℕ} → Order m start count ≡ Refused 0 → ⊥
+    not-refused q = let z : _≡_ {A = ℕ} 0 1 = cc in omega arith
+
+pub normal-reply : NormalReply
+normal-reply =
+    record {
+      framed = normal-framed;
+      starts = λ c n. let f = normal-framed c n in ap (λ (t : List ℕ). getD t 0 0) (f .is) ∙ f .law .starts;
+    }
 
 -- 200H is the table's first row
 abbrev testCall : Message

@@ -28,7 +28,7 @@ pub record Examples : Type 0 where
   pub no-step-back : backOf blank .number ≡ 9
   -- `ErrorsAgree`: the same frame to two boards whose columns differ
   pub same-error : SameError (bench blank (text "!99299@@\r\n")) (bench (columnsHolding 300 (replicate 700 0x41)) (text "!99299@@\r\n"))
-  -- `QueryChangesNothing`: a 208H; `EveryReply` and `TestCallBack`: a 200H
+  -- `QueryChangesNothing`: a 208H; `EveryReply`, `NormalReply` and `TestCallBack`: a 200H
   pub query : asksWrite (asked (bench blank (text "!99208@@\r\n"))) ≡ false
   pub test-call : messageIn (text "!99200001234567829\r\n") ≡ text "200"
   pub test-reply : answerOf (bench blank (text "!99200001234567829\r\n")) .number ≡ 0

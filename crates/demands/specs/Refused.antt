@@ -1,8 +1,9 @@
 -- Demand 1: a refused frame or step back changes nothing; "a refusal has one number and one fixed reply, or none".
-use Prim.Native.Nat.{_≤_, _<_}
+use Prim.Native.Nat.{ℕ, _≤_, _<_}
 use mathlib.Core.Path.{_≡_}
-use mathlib.Core.Bool.{Bool, false}
-use mathlib.Core.List.{[]}
+use mathlib.Core.Bool.{Bool, true, false, _||_}
+use mathlib.Core.List.{List, [], _∷_}
+use lib.Dec.{eqb}
 use lib.ListN.{length, drop}
 use Rattle.digits.specs.Laid.{laid}
 use Rattle.frames.specs.Frame.{errorOf}
@@ -17,6 +18,24 @@ use Rattle.link.specs.Answer.{asked, writes, answerOf, backOf}
 pub record OneNumber : Type 0 where
   pub frame : (c : Call) → answerOf c .number ≡ refusalOf c
   pub back : (a : Areas) → backOf a .number ≡ backRefusalOf a
+
+-- a frame's numbers ("Refusal numbers"): "An accepted call has number 0", 1 to 8 come without a reply, 101 to 107 with the error reply
+abbrev pub frameNumbers : List ℕ
+frameNumbers = 0 ∷ 1 ∷ 2 ∷ 3 ∷ 4 ∷ 5 ∷ 6 ∷ 7 ∷ 8 ∷ 101 ∷ 102 ∷ 103 ∷ 104 ∷ 105 ∷ 106 ∷ 107 ∷ []
+
+-- the step back's: it "tests 2, 3, 4, then 9" ("Refusal numbers")
+abbrev pub backNumbers : List ℕ
+backNumbers = 0 ∷ 2 ∷ 3 ∷ 4 ∷ 9 ∷ []
+
+-- a number stands in such a list
+abbrev pub among : ℕ → List ℕ → Bool
+among n [] = false
+among n (k ∷ ks) = eqb n k || among n ks
+
+-- no other number comes back ("Refusal numbers")
+pub record NoOtherNumber : Type 0 where
+  pub frame : (c : Call) → among (answerOf c .number) frameNumbers ≡ true
+  pub back : (a : Areas) → among (backOf a .number) backNumbers ≡ true
 
 -- "A frame that is refused changes no point, no column and nothing in the journal" (demand 1); the step back neither
 pub record ChangesNothing : Type 0 where
