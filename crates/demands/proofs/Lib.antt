@@ -1,14 +1,11 @@
 pub mod Refused
 pub mod Sole
-pub mod Computing
-pub mod Worked
 pub mod Replied
 pub mod Parts
 pub mod Lengths
 pub mod Shaped
 pub mod Wrote
 pub mod Histories
-pub mod Broken
 pub mod Commands
 pub mod Asking
 pub mod Journals
@@ -20,6 +17,3 @@ pub mod Slots
 pub mod Listed
 pub mod Lasting
 pub mod Survived
-pub mod Useless
-pub mod SurviveExamples
-pub mod Examples

@@ -1,11 +1,6 @@
 pub mod Refused
 pub mod Sole
-pub mod Cases
 pub mod Replied
 pub mod History
 pub mod Reading
 pub mod Survive
-pub mod Useless
-pub mod Broken
-pub mod SurviveExamples
-pub mod Examples

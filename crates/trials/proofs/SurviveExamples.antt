@@ -14,13 +14,13 @@ use Rattle.table.specs.declared.Named.the-variants.{Known}
 use Rattle.table.specs.Table.{messageOf}
 use Rattle.refusals.specs.Refusals.{refusalOf}
 use Rattle.link.specs.Answer.{answerOf}
 use Rattle.demands.specs.Reading.{Host, sent, fitting}
 use Rattle.demands.specs.Survive.{Accepted}
-use Rattle.demands.specs.SurviveExamples.{codeCall, manyCall, replied, Examples}
+use Rattle.trials.specs.SurviveExamples.{codeCall, manyCall, replied, Examples}
 use Rattle.demands.proofs.Commands.{writing, clearing, changing}
-use Rattle.demands.proofs.Computing.{a-call}
-use Rattle.demands.proofs.Useless.{zero-bytes}
+use Rattle.trials.proofs.Computing.{a-call}
+use Rattle.trials.proofs.Useless.{zero-bytes}
 use Rattle.demands.proofs.Survived.{every-digit-survives}
 
 host : Host (codeCall .sent)
 unfolding a-call

@@ -8,11 +8,11 @@ use lib.ListN.{length, getD}
 use Rattle.kinds.specs.Kinds.{pointsTag, columnsTag}
 use Rattle.journal.specs.Journal.{added, lastEntry}
 use Rattle.calls.specs.Calls.{Areas, Sent}
-use Rattle.demands.specs.Cases.{holding}
+use Rattle.trials.specs.Cases.{holding}
 use Rattle.demands.specs.History.{Conduct, Event, frame, stepBack, after, acceptedWrite, alone, entries, account, Holds, EveryHistory}
-use Rattle.demands.specs.Broken.{lotCode, pointOne, twoPoints, clearOne, unknown, smallest, small, Worked, entersNew, clears, refusalWrites, forgets, takesNothing, Broken}
-use Rattle.demands.specs.Useless.{storesNothing, storesFirst}
-use Rattle.demands.proofs.Computing.{a-call}
+use Rattle.trials.specs.Broken.{lotCode, pointOne, twoPoints, clearOne, unknown, smallest, small, Worked, entersNew, clears, refusalWrites, forgets, takesNothing, Broken}
+use Rattle.trials.specs.Useless.{storesNothing, storesFirst}
+use Rattle.trials.proofs.Computing.{a-call}
 
 pub worked : Worked
 unfolding a-call

@@ -29,16 +29,16 @@ use Rattle.refusals.specs.Refusals.{refusalOf}
 use Rattle.link.specs.Answer.{held, asked, rest, writes, answerOf}
 use Rattle.link.proofs.Answering.{accepted, frame-number}
 use Rattle.link.proofs.Carrying.{fine, slots-long}
-use Rattle.demands.specs.Cases.{holding, bench}
+use Rattle.trials.specs.Cases.{holding, bench}
 use Rattle.demands.specs.History.{Conduct}
 use Rattle.demands.specs.Reading.{startOf, countOf, Host, asking, Says, effectiveOf, Counts}
 use Rattle.demands.specs.Survive.{Accepted, effectiveNamed, EveryDigitSurvives}
-use Rattle.demands.specs.Useless.{RefusesAll, SameReply, StoresNothing, behindFirst, StoresFirst, InventsCount, InventsUsed, usedAfter, Board, Meets, outcomeBy, Useless, ShutOut, firstOnly, tellsFive, refuser, parrot, storesNothing, storesFirst, fiveAlways, usedAll, usedMore, Made}
-use Rattle.demands.proofs.Computing.{a-call}
+use Rattle.trials.specs.Useless.{RefusesAll, SameReply, StoresNothing, behindFirst, StoresFirst, InventsCount, InventsUsed, usedAfter, Board, Meets, outcomeBy, Useless, ShutOut, firstOnly, tellsFive, refuser, parrot, storesNothing, storesFirst, fiveAlways, usedAll, usedMore, Made}
+use Rattle.trials.proofs.Computing.{a-call}
 use Rattle.demands.proofs.Commands.{counting, writing, clearing, row-of, rows, messageNamed, message-of, named}
 use Rattle.demands.proofs.Asking.{Took, took}
 use Rattle.demands.proofs.Written.{area-size, areas-left, wrote}
 use Rattle.demands.proofs.Runs.{put-apart}
 
 -- a board of two points: asked for a test, for the count; point 1 written, points 1 and 2 written, point 1 cleared
 abbrev two : Areas

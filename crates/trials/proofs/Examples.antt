@@ -1,7 +1,7 @@
 -- The examples, by computing.
 use mathlib.Core.Path.{refl}
-use Rattle.demands.specs.Examples.{Examples}
-use Rattle.demands.proofs.Computing.{a-call}
+use Rattle.trials.specs.Examples.{Examples}
+use Rattle.trials.proofs.Computing.{a-call}
 
 pub examples : Examples
 unfolding a-call

@@ -12,9 +12,9 @@ use Rattle.journal.specs.Journal.{entryFor}
 use Rattle.axes.specs.Records.{zeroRecord, eightAxes}
 use Rattle.calls.specs.Calls.{Areas, Sent, fresh, lengthsOf, putIn, withEntries}
 use Rattle.link.specs.Answer.{unanswered, answerOf, backOf}
-use Rattle.demands.specs.Cases.{holding}
-use Rattle.demands.specs.Useless.{storesNothing, storesFirst}
+use Rattle.trials.specs.Cases.{holding}
+use Rattle.trials.specs.Useless.{storesNothing, storesFirst}
 use Rattle.demands.specs.History.{Conduct, ours, Event, frame, stepBack, callOn, Past, past, entries, EveryHistory}
 
 -- a frame to station 99H, all eight axes fitted
 abbrev pub send : String → Sent

@@ -14,8 +14,8 @@ use Rattle.calls.specs.Calls.{Areas, Call, callOf}
 use Rattle.link.specs.Answer.{asked, answerOf, backOf}
 use Rattle.link.specs.Contract.{StepsBack}
 use Rattle.board.specs.Calls.{codeOf, startOf, lengthOf, Receives}
 use Rattle.demands.specs.Refused.{SameError, asksWrite}
-use Rattle.demands.specs.Cases.{blank, bench, columnsHolding}
+use Rattle.trials.specs.Cases.{blank, bench, columnsHolding}
 
 -- a 208H to the bench with its axis records as a lent run
 abbrev pub lentBench : List AxisRecord → Call

@@ -1,7 +1,7 @@
 -- The proved cases, by computing.
 use mathlib.Core.Path.{refl}
-use Rattle.demands.specs.Cases.{ProvedCases}
-use Rattle.demands.proofs.Computing.{a-call}
+use Rattle.trials.specs.Cases.{ProvedCases}
+use Rattle.trials.proofs.Computing.{a-call}
 
 pub proved-cases : ProvedCases
 unfolding a-call

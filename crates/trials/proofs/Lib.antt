@@ -1,0 +1,6 @@
+pub mod Computing
+pub mod Worked
+pub mod Useless
+pub mod Broken
+pub mod Examples
+pub mod SurviveExamples

@@ -1,0 +1,5 @@
+pub mod Cases
+pub mod Useless
+pub mod Broken
+pub mod Examples
+pub mod SurviveExamples
