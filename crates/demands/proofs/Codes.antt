@@ -1,6 +1,6 @@
 -- 24EH, then 210H: the very digits that were sent; so for a run of any kind.
 use Prim.Native.Nat.{ℕ, _+_, _-_, _*_, _≤_}
-use mathlib.Core.Path.{_≡_, refl, sym, ap, ap₂, _∙_, subst}
+use mathlib.Core.Path.{_≡_, refl, sym, ap, ap₂, _∙_}
 use mathlib.Core.Bool.{Bool, true}
 use mathlib.Core.List.{List, _++_, append-assoc}
 use native.Mathlib.Omega.{arith}
@@ -13,7 +13,7 @@ use Rattle.digits.proofs.Inverse.{inverse}
 use Rattle.digits.proofs.Bools.{was-not}
 use Rattle.kinds.specs.declared.Kind.{Kind}
 use Rattle.kinds.specs.declared.Held.{Held}
-use Rattle.kinds.specs.Kinds.{columnsTag, columnsOf, kindOf, heldIn, holds, runOf}
+use Rattle.kinds.specs.Kinds.{columnsTag, columnsOf, kindOf, holds, runOf}
 use Rattle.kinds.proofs.Known.{kind-columns, within, run-length}
 use Rattle.pairs.specs.Pairs.{bytesIn, digitsIn}
 use Rattle.pairs.proofs.Paired.{length-digitsIn}
@@ -23,9 +23,8 @@ use Rattle.table.specs.declared.Follows.the-variants.{Nothing, RunBytes}
 use Rattle.table.specs.declared.Action.the-variants.{ReadRun, ChangeRun}
 use Rattle.table.specs.declared.Message.{Message}
 use Rattle.table.specs.Table.{row, fieldsOf, startIn, countIn}
-use Rattle.messages.proofs.Judged.{Right}
 use Rattle.queries.specs.Replies.{headOf, runText}
-use Rattle.calls.specs.Calls.{Areas, Sent, callOf, lengthsOf, areaIn}
+use Rattle.calls.specs.Calls.{Areas, Sent, callOf, areaIn}
 use Rattle.link.specs.Answer.{saidBy}
 use Rattle.demands.specs.History.{ours}
 use Rattle.demands.specs.Reading.{content, startOf, countOf, restOf, untouched, Says, asksColumns, digitsFrom, ColumnsSaid, CodesRead}

@@ -5,7 +5,6 @@ use mathlib.Core.Bool.{Bool, true, false}
 use mathlib.Core.List.{List, []}
 use lib.ListN.{take, drop}
 use Rattle.kinds.specs.declared.Held.{Held}
-use Rattle.kinds.specs.declared.Lengths.{Lengths}
 use Rattle.kinds.specs.Kinds.{kindOf, heldIn, runOf}
 use Rattle.journal.proofs.Codec.{Bytes}
 use Rattle.table.specs.declared.Message.{Message}

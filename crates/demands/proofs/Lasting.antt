@@ -1,7 +1,7 @@
 -- What stands of a write after any history: the account of the standing writes, and that a later one leaves what it spares.
 use Prim.Native.Nat.{ℕ, _+_, _≤_}
 use mathlib.Core.Path.{_≡_, refl, sym, ap, _∙_, subst}
-use mathlib.Core.Bool.{Bool, true, false, not, _&&_, _||_}
+use mathlib.Core.Bool.{Bool, true, false, not, _||_}
 use mathlib.Core.List.{List, [], _∷_, _++_}
 use native.Mathlib.Omega.{arith}
 use lib.Dec.{eqb, leb}
@@ -16,13 +16,13 @@ use Rattle.journal.specs.Journal.{Entry}
 use Rattle.table.specs.declared.Message.{Message}
 use Rattle.table.specs.declared.Named.{Named}
 use Rattle.table.specs.declared.Named.the-variants.{Known}
-use Rattle.table.specs.Table.{messageOf, startIn, countIn, restIn}
+use Rattle.table.specs.Table.{messageOf, startIn, countIn}
 use Rattle.messages.specs.Asked.{askedOf}
 use Rattle.messages.proofs.Judged.{told}
 use Rattle.calls.specs.Calls.{Areas, Sent, fresh, areaIn, putIn}
-use Rattle.link.specs.Answer.{writes, newBytes}
+use Rattle.link.specs.Answer.{writes}
 use Rattle.link.proofs.Carrying.{writable}
-use Rattle.demands.specs.History.{ours, Past, runSaid, account}
+use Rattle.demands.specs.History.{Past, runSaid, account}
 use Rattle.demands.specs.Reading.{content, startOf, countOf, spares, untouched}
 use Rattle.demands.proofs.Asking.{Ordered, ordered-so}
 use Rattle.demands.proofs.Shaped.{Bounds, takes, held-is, passes}

@@ -1,19 +1,18 @@
 -- 244H or 246H, then 209H and 208H: the points that are left, listed and counted.
-use Prim.Native.Nat.{ℕ, zero, suc, _+_, _-_, _*_, _≤_, _<_}
+use Prim.Native.Nat.{ℕ, _+_, _-_, _*_, _≤_, _<_}
 use mathlib.Core.Path.{_≡_, refl, sym, ap, ap₂, _∙_, subst}
 use mathlib.Core.Bool.{Bool, true, false}
-use mathlib.Core.List.{List, [], _∷_, _++_, append-assoc}
+use mathlib.Core.List.{List, [], _∷_, _++_}
 use native.Mathlib.Omega.{arith}
-use lib.ListN.{length, take, drop, getD, replicate, length-append, length-take, length-drop, take-append-drop}
-use lib.Seq.{take-all, take-at, drop-at}
+use lib.ListN.{length, take, drop, getD, length-append, length-take, length-drop, take-append-drop}
+use lib.Seq.{take-all}
 use borrow.Author.Tests.{eqb-true, le-leb}
 use Rattle.digits.specs.Digits.{byteOf, digitsOf, allDigits}
 use Rattle.digits.specs.Text.{text}
 use Rattle.digits.proofs.Inverse.{inverse}
 use Rattle.digits.proofs.Bools.{was-not}
-use Rattle.kinds.specs.declared.Kind.{Kind}
 use Rattle.kinds.specs.declared.Held.{Held}
-use Rattle.kinds.specs.Kinds.{pointsTag, pointsOf, kindOf, heldIn, holds, runOf}
+use Rattle.kinds.specs.Kinds.{pointsTag, pointsOf, heldIn, holds, runOf}
 use Rattle.kinds.proofs.Known.{kind-points, within}
 use Rattle.table.specs.declared.Follows.{Follows}
 use Rattle.table.specs.declared.Follows.the-variants.{Nothing, Points}

@@ -7,7 +7,7 @@ use native.Mathlib.Nat.{add-mul, mul-le-mul-right}
 use native.Mathlib.Omega.{arith}
 use lib.Dec.{leb}
 use lib.ListN.{length, take, drop, length-drop}
-use lib.Seq.{length-take-le, take-append-le, drop-append-le, drop-at, drop-drop, take-take}
+use lib.Seq.{length-take-le, take-append-le, drop-append-le, drop-at, drop-drop}
 use borrow.Author.Tests.{leb-true}
 use Rattle.digits.specs.Laid.{laid}
 use Rattle.kinds.specs.declared.Kind.{Kind}

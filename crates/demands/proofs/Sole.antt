@@ -4,7 +4,6 @@ use mathlib.Core.Path.{_≡_, sym, ap, _∙_}
 use mathlib.Core.List.{List}
 use Rattle.link.specs.declared.Answered.{Answered}
 use Rattle.link.specs.declared.Back.{Back}
-use Rattle.calls.specs.Calls.{Areas}
 use Rattle.board.specs.Calls.{answeredOf, backedOf}
 use Rattle.demands.specs.Sole.{OneAnswer, OneStepBack, OneFound, OneReceive, OneCabinetAnswer, OneCabinetBack}
 

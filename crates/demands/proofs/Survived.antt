@@ -2,7 +2,7 @@
 use Prim.Native.Nat.{ℕ, _+_, _*_, _≤_}
 use mathlib.Core.Path.{_≡_, refl, sym, ap, _∙_, subst}
 use mathlib.Core.Bool.{Bool, true}
-use mathlib.Core.List.{List, []}
+use mathlib.Core.List.{List}
 use native.Mathlib.Omega.{arith}
 use lib.ListN.{length}
 use Rattle.digits.proofs.Bools.{was-not}
@@ -20,12 +20,13 @@ use Rattle.table.specs.declared.Named.the-variants.{Known}
 use Rattle.table.specs.Table.{row, messageOf}
 use Rattle.calls.specs.Calls.{Areas, Sent, Call}
 use Rattle.link.specs.Answer.{held, rest, writes, newBytes, answerOf}
+use Rattle.refusals.proofs.Rows.{call-passed}
 use Rattle.link.proofs.Carrying.{fine}
 use Rattle.demands.specs.History.{ours}
-use Rattle.demands.specs.Reading.{content, startOf, countOf, CodesRead, PointsRead, PointsGone, Reads, effectiveOf}
-use Rattle.demands.specs.Survive.{Accepted, effectiveNamed, Once, Lasts, EveryDigitSurvives}
+use Rattle.demands.specs.Reading.{startOf, countOf, CodesRead, PointsRead, PointsGone, Reads, effectiveOf}
+use Rattle.demands.specs.Survive.{Accepted, HeardAgain, effectiveNamed, Once, EveryDigitSurvives}
 use Rattle.demands.proofs.Refused.{one-number}
-use Rattle.demands.proofs.Commands.{writing, clearing, changing, row-of, rows}
+use Rattle.demands.proofs.Commands.{writing, clearing, changing, row-of, rows, station-byte}
 use Rattle.demands.proofs.Asking.{Took, took}
 use Rattle.demands.proofs.Shaped.{Bounds, passes}
 use Rattle.demands.proofs.Written.{wrote, lengths-kept, open-after, only-named}
@@ -79,6 +80,13 @@ module _ (id : ℕ) (follows : Follows) (does : Action) (repeats : Bool) where
 -- the frame of an accepted call was taken
 taken : {id : ℕ} (c : Call) (a : Accepted id c) → Took (a .message) c
 taken c a = took (a .message) c (a .known) (one-number .frame c ∙ a .number)
+
+pub heard-again : HeardAgain
+heard-again id c a =
+    let t = taken c a in
+    let p = call-passed c (t .heard) in
+    let f = fine c (t .heard) in
+    record { reply-long = f .reply-long; axes-fit = p .axes-fit; station-byte = station-byte (c .sent .settings .station) (c .sent .frame) (f .frame-long) (p .station) }
 
 written-once : (c : Call) (a : Accepted 0x244 c) → Once ours (a .message) c (countOf (a .message) (c .sent))
 written-once c a =

@@ -9,7 +9,7 @@ use lib.ListN.{length}
 use borrow.Author.Tests.{eqb-true, eqb-false}
 use Rattle.kinds.specs.declared.Kind.{Kind}
 use Rattle.kinds.specs.declared.Held.{Held}
-use Rattle.kinds.specs.Kinds.{pointsTag, columnsTag, pointsOf, columnsOf, kindOf, holds, sizeOf, runOf, put}
+use Rattle.kinds.specs.Kinds.{pointsTag, columnsTag, pointsOf, columnsOf, kindOf, holds, sizeOf, put}
 use Rattle.kinds.proofs.Known.{tag-of, own-kind, within, room, run-length}
 use Rattle.kinds.proofs.Promised.{run}
 use Rattle.journal.specs.Journal.{Entry, puts, entryFor}
@@ -36,10 +36,6 @@ module _ (k : Kind) (start count : ℕ) (bytes area : List ℕ) (h : holds k sta
       let r = room k start count h in
       let w = run k start count bytes area e (omega arith) in
       record { before-it = w .outside-before; behind-it = λ i b. w .outside-behind i (omega arith); as-long = w .as-long }
-
-  -- and is read back
-  pub read-back : runOf k start count (put k start bytes area) ≡ bytes
-  read-back = let r = room k start count h in run k start count bytes area e (omega arith) .read-back
 
 -- each kind's area is as long as its kind says
 pub area-size : (c : Call) → Fine c → (tag : ℕ) → length (areaIn tag (c .areas)) ≡ sizeOf (kindOf (held c) tag)

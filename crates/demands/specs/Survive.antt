@@ -14,7 +14,7 @@ use Rattle.calls.specs.Calls.{Sent, Call, areaIn}
 use Rattle.refusals.specs.Refusals.{refusalOf}
 use Rattle.link.specs.Answer.{held}
 use Rattle.demands.specs.History.{Conduct, Past, AfterAny}
-use Rattle.demands.specs.Reading.{startOf, countOf, Reads, effectiveOf, Counts}
+use Rattle.demands.specs.Reading.{startOf, countOf, Host, Reads, effectiveOf, Counts}
 
 -- a frame of a message ("What the board answers"), by the ID of its row in the table, for which no refusal holds, whatever a board makes of it; what is
 -- lent as the journal is bytes
@@ -24,6 +24,10 @@ pub record Accepted (id : ℕ) (c : Call) : Type 0 where
   pub known : messageOf (c .sent .frame) ≡ Known message
   pub number : refusalOf c ≡ 0
   pub bytes : (i : ℕ) → getD (c .areas .journal) i 0 < 256
+
+-- whoever sent one is a host that is heard again
+abbrev pub HeardAgain : Type 0
+HeardAgain = (id : ℕ) (c : Call) → Accepted id c → Host (c .sent)
 
 -- what stands before a run of a kind and behind it is as before ("The areas")
 pub record Outside (k : Kind) (start count : ℕ) (area area′ : List ℕ) : Type 0 where

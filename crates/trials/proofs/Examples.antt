@@ -1,5 +1,8 @@
 -- The examples, by computing.
 use mathlib.Core.Path.{refl}
+use native.Mathlib.Omega.{arith}
+use Rattle.points.specs.Cases.{benchDigits}
+use Rattle.points.proofs.Promised.{every-digit}
 use Rattle.trials.specs.Examples.{Examples}
 use Rattle.trials.proofs.Computing.{a-call}
 
@@ -16,6 +19,9 @@ examples =
       test-reply = refl;
       seven-lent = refl;
       eight-lent = refl;
+      four-bytes = omega arith;
+      run-fits = (refl, omega arith);
+      slot-fits = every-digit benchDigits refl refl .0;
       step-back = λ a. record { number-is = refl; kept-is = refl; areas-are = refl };
       receive = λ f. record { code-is = refl; start-is = refl; length-is = refl; drop-is = refl };
     }

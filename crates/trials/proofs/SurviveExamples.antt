@@ -1,8 +1,7 @@
 -- Demand 2's examples, by computing; those of 45 points, which are too many to be listed so, by what it says of them.
-use Prim.Native.Nat.{ℕ, _<_}
-use mathlib.Core.Path.{_≡_, refl, ap, _∙_}
+use Prim.Native.Nat.{_<_}
+use mathlib.Core.Path.{_≡_, refl, ap}
 use mathlib.Core.Bool.{false}
-use mathlib.Core.List.{List}
 use native.Mathlib.Omega.{arith}
 use lib.ListN.{take}
 use Rattle.digits.specs.Digits.{worthOf, byteOf}

@@ -1,8 +1,8 @@
 -- Each useless board is ruled out by what a call or two compute to; and there are such boards.
-use Prim.Native.Nat.{ℕ, zero, suc, _+_, _-_, _*_, _/_, _<_, _≤_}
+use Prim.Native.Nat.{ℕ, zero, suc, _+_, _-_, _/_, _<_, _≤_}
 use mathlib.Core.Path.{_≡_, refl, sym, ap, ap₂, _∙_, subst}
-use mathlib.Core.Bool.{Bool, true, false, cond, _&&_}
-use mathlib.Core.List.{List, _∷_, [], _++_}
+use mathlib.Core.Bool.{true, false, cond}
+use mathlib.Core.List.{List, _++_}
 use native.Mathlib.Omega.{arith}
 use lib.Dec.{eqb}
 use lib.ListN.{length, take, drop, getD, replicate}
@@ -12,33 +12,31 @@ use Rattle.digits.specs.Digits.{worthOf, byteOf, digitsOf}
 use Rattle.digits.specs.Text.{text}
 use Rattle.digits.proofs.Laid.{take-laid}
 use Rattle.digits.proofs.Bools.{either}
-use Rattle.frames.specs.Frame.{normal, messageIn, replyOf}
-use Rattle.kinds.specs.declared.Held.{Held}
-use Rattle.kinds.specs.declared.Lengths.{Lengths}
-use Rattle.kinds.specs.Kinds.{pointsOf, pointsTag, heldIn, holds, runOf, put}
+use Rattle.frames.specs.Frame.{normal, replyOf}
+use Rattle.kinds.specs.Kinds.{pointsOf, heldIn, holds, runOf, put}
 use Rattle.kinds.proofs.Known.{kind-points, within}
 use Rattle.points.specs.Point.{effectiveIn, slotsOf}
 use Rattle.table.specs.declared.Message.{Message}
 use Rattle.table.specs.declared.Named.the-variants.{Known}
 use Rattle.messages.specs.declared.Asked.{Asked}
-use Rattle.messages.specs.declared.Asked.the-variants.{Refused, Order}
 use Rattle.table.specs.Table.{messageOf}
 use Rattle.calls.specs.declared.Kept.{Kept}
-use Rattle.calls.specs.Calls.{Areas, Call, Outcome, fresh, lengthsOf, written}
+use Rattle.calls.specs.Calls.{Areas, Call, Outcome, areasOf, fresh, lengthsOf}
 use Rattle.refusals.specs.Refusals.{refusalOf}
 use Rattle.link.specs.Answer.{held, asked, rest, writes, answerOf}
 use Rattle.link.proofs.Answering.{accepted, frame-number}
 use Rattle.link.proofs.Carrying.{fine, slots-long}
 use Rattle.trials.specs.Cases.{holding, bench}
 use Rattle.demands.specs.History.{Conduct}
-use Rattle.demands.specs.Reading.{startOf, countOf, Host, asking, Says, effectiveOf, Counts}
+use Rattle.demands.specs.Reading.{startOf, countOf, Host, asking, effectiveOf}
 use Rattle.demands.specs.Survive.{Accepted, effectiveNamed, EveryDigitSurvives}
-use Rattle.trials.specs.Useless.{RefusesAll, SameReply, StoresNothing, behindFirst, StoresFirst, InventsCount, InventsUsed, usedAfter, Board, Meets, outcomeBy, Useless, ShutOut, firstOnly, tellsFive, refuser, parrot, storesNothing, storesFirst, fiveAlways, usedAll, usedMore, Made}
+use Rattle.trials.specs.Useless.{behindFirst, StoresFirst, InventsCount, usedAfter, Board, Meets, outcomeBy, Useless, ShutOut, firstOnly, storesFirst, fiveAlways, oneMore, Made}
 use Rattle.trials.proofs.Computing.{a-call}
-use Rattle.demands.proofs.Commands.{counting, writing, clearing, row-of, rows, messageNamed, message-of, named}
+use Rattle.demands.proofs.Commands.{writing, clearing, row-of, rows, named}
 use Rattle.demands.proofs.Asking.{Took, took}
-use Rattle.demands.proofs.Written.{area-size, areas-left, wrote}
+use Rattle.demands.proofs.Written.{areas-left, wrote}
 use Rattle.demands.proofs.Runs.{put-apart}
+use Rattle.demands.proofs.Survived.{every-digit-survives}
 
 -- a board of two points: asked for a test, for the count; point 1 written, points 1 and 2 written, point 1 cleared
 abbrev two : Areas
@@ -71,8 +69,6 @@ record Told : Type 0 where
   test-text : answerOf test .text ≡ text "#9920000123456782B\r\n"
   none-number : answerOf (countOn two) .number ≡ 0
   none-text : answerOf (countOn two) .text ≡ text "#99208000BF\r\n"
-  some-number : answerOf (countOn (answerOf one-point .areas)) .number ≡ 0
-  some-text : answerOf (countOn (answerOf one-point .areas)) .text ≡ text "#99208001C0\r\n"
   one-refused : refusalOf one-point ≡ 0
   one-known : messageOf (one-point .sent .frame) ≡ Known writing
   two-refused : refusalOf two-points ≡ 0
@@ -85,6 +81,7 @@ record Told : Type 0 where
   one-counted : (effectiveNamed writing one-point ≡ 0) × (effectiveOf two ≡ 0) × (countOf writing (one-point .sent) ≡ 1)
   two-counted : (effectiveNamed writing two-points ≡ 0) × (countOf writing (two-points .sent) ≡ 2)
   none-counted : effectiveNamed clearing no-point ≡ 0
+  one-said : replyOf normal 0x99 (text "208" ++ digitsOf 3 (effectiveOf (answerOf one-point .areas))) ≡ text "#99208001C0\r\n"
   used-all : usedAfter writing two-points ≡ 85
   used-more : answerOf two-points .areas .kept .used ≡ 85
 
@@ -96,8 +93,6 @@ told =
       test-text = refl;
       none-number = refl;
       none-text = refl;
-      some-number = refl;
-      some-text = refl;
       one-refused = refl;
       one-known = refl;
       two-refused = refl;
@@ -110,6 +105,7 @@ told =
       one-counted = (refl, refl, refl);
       two-counted = (refl, refl);
       none-counted = refl;
+      one-said = refl;
       used-all = refl;
       used-more = refl;
     }
@@ -145,6 +141,23 @@ is-taken c a = took (a .message) c (a .known) (frame-number c ∙ a .number)
 left-used : {id : ℕ} (c : Call) (a : Accepted id c) → writes (a .message .does) ≡ true → answerOf c .areas .kept .used ≡ usedAfter (a .message) c
 left-used c a w = ap (λ (x : Areas). x .kept .used) (areas-left (a .message) c (is-taken c a) true w)
 
+-- so its count is the true one
+same-outcome : (board : Board) → Meets board → (c : Call) → outcomeBy board c ≡ answerOf c
+same-outcome board m c =
+    let areas : outcomeBy board c .areas ≡ answerOf c .areas = λ i. areasOf (m c .areas-are i .points) (m c .areas-are i .columns) (m c .areas-are i .journal) (m c .kept-is i) in
+    λ i. record { number = m c .number-is i; text = replied board m c i; areas = areas i }
+
+tells-true : (board : Board) (m : Meets board) (i : InventsCount (outcomeBy board))
+    → outcomeBy board (asking (outcomeBy board (i .call) .areas) (i .host) (i .checked) (text "208")) .text
+    ≡ replyOf normal (i .host .settings .station) (text "208" ++ digitsOf 3 (effectiveOf (outcomeBy board (i .call) .areas)))
+tells-true board m i =
+    let h = i .host in
+    let b = i .checked in
+    ap (λ (o : Outcome). o .text) (same-outcome board m (asking (outcomeBy board (i .call) .areas) h b (text "208")))
+    ∙ subst (λ (a : Areas). answerOf (asking a h b (text "208")) .text ≡ replyOf normal (h .settings .station) (text "208" ++ digitsOf 3 (effectiveOf a)))
+    (ap (λ (o : Outcome). o .areas) (sym (same-outcome board m (i .call))))
+    (every-digit-survives .counted (i .id) (i .call) (i .accepted) .text h (i .heard) b)
+
 pub useless : Useless
 useless =
     record {
@@ -165,15 +178,7 @@ useless =
           let e = ap (behindFirst writing two-points) (sym (points board m two-points)) ∙ n two-points is-two in
           let f : _≡_ {A = ℕ} 1 0 = sym (told .second-stored) ∙ ap (λ (s : List ℕ). getD s 0 0) e ∙ told .second-before in
           absurd (omega (arith, f));
-      invents-count = λ board same m.
-          let c = countOn two in
-          let d = countOn (answerOf one-point .areas) in
-          let e =
-          sym (told .none-text) ∙ sym (replied board m c) ∙ same c d refl refl refl (m c .number-is ∙ told .none-number) (m d .number-is ∙ told .some-number)
-          ∙ replied board m d
-          ∙ told .some-text in
-          let f : _≡_ {A = ℕ} 0x30 0x31 = ap (λ (s : List ℕ). getD s 8 0) e in
-          absurd (omega (arith, f));
+      invents-count = λ board i m. i .other (tells-true board m i);
       invents-used = λ board i m. i .other (used board m (i .call) ∙ left-used (i .call) (i .accepted) (i .is-write));
     }
 
@@ -240,9 +245,7 @@ shut-out =
       stores-first = λ board n d.
           let e : getD (take 40 (drop 40 (left board d))) 0 0 ≡ 0 = ap (λ (s : List ℕ). getD s 0 0) (n two-points is-two) ∙ told .second-before in
           second-there board d (sym (getD-take 40 (drop 40 (left board d)) 0 0 (omega arith)) ∙ e);
-      invents-count = λ board same d.
-          differs board d
-          (same (counting-after board d one-point) (counting-after board d no-point) refl refl refl (heard board d one-point is-one) (heard board d no-point is-none));
+      invents-count = λ board i d. i .other (d .counted (i .id) (i .call) (i .accepted) .text (i .host) (i .heard) (i .checked));
     }
 
 -- the points that a 244H leaves where its first slot alone is stored: what it names behind that stays
@@ -283,19 +286,37 @@ stays c a =
     subst (λ (x : Message). behindFirst x c (firstOnly c (asked c) (answerOf c) .areas .points) ≡ behindFirst x c (c .areas .points)) (sym e)
     (behind-stays c (subst (λ (x : Message). Took x c) e (is-taken c a)))
 
--- five is told, whatever the points
-told-five : (c : Call) → messageIn (c .sent .frame) ≡ text "208" → fiveAlways .answer c .number ≡ 0
-    → fiveAlways .answer c .text ≡ replyOf normal (c .sent .settings .station) (text "208005")
-told-five c e n =
-    let k : messageOf (c .sent .frame) ≡ Known counting = message-of (c .sent .frame) (text "208") e ∙ named .0 in
-    let z : answerOf c .number ≡ 0 = same-number (asked c) n in
-    let t = took counting c k z in
-    ap (λ (x : Asked). tellsFive c x (answerOf c) .text) (t .order) ∙ rw (t .answer)
-  where
-    same-number : (x : Asked) → tellsFive c x (answerOf c) .number ≡ 0 → answerOf c .number ≡ 0
-    same-number (Refused number) n = n
-    same-number (Order m start count) n =
-        either (λ (o : Outcome). o .number ≡ 0 → answerOf c .number ≡ 0) (eqb (m .id) 0x208 && eqb (answerOf c .number) 0) (λ _ q. q) (λ _ q. q) n
+-- five is told, and two, where there is one
+five-told : fiveAlways .answer (countOn (fiveAlways .answer one-point .areas)) .text ≡ text "#99208005C4\r\n"
+unfolding a-call
+five-told = refl
+
+two-told : oneMore .answer (countOn (oneMore .answer one-point .areas)) .text ≡ text "#99208002C1\r\n"
+unfolding a-call
+two-told = refl
+
+five-left : fiveAlways .answer one-point .areas ≡ answerOf one-point .areas
+unfolding a-call
+five-left = refl
+
+two-left : oneMore .answer one-point .areas ≡ answerOf one-point .areas
+unfolding a-call
+two-left = refl
+
+-- a board that leaves what ours leaves, and tells another count than one
+invents : (answer : Call → Outcome) (said : List ℕ) → answer one-point .areas ≡ answerOf one-point .areas → answer (countOn (answer one-point .areas)) .text ≡ said
+    → (said ≡ text "#99208001C0\r\n" → ⊥) → InventsCount answer
+unfolding byteOf
+invents answer said same e n =
+    record {
+      id = 0x244;
+      call = one-point;
+      accepted = is-one;
+      host = test .sent;
+      heard = is-host;
+      checked = false;
+      other = λ f. n (sym e ∙ f ∙ ap (λ (a : Areas). replyOf normal 0x99 (text "208" ++ digitsOf 3 (effectiveOf a))) same ∙ told .one-said);
+    }
 
 pub made : Made
 made =
@@ -304,8 +325,8 @@ made =
       same-reply = λ c d p q. refl;
       stores-nothing = λ c. refl;
       stores-first = stays;
-      invents-count = λ c d e f s p q.
-          told-five c e p ∙ ap (λ (n : ℕ). replyOf normal n (text "208005")) s ∙ sym (told-five d (ap messageIn (sym f) ∙ e) q);
+      five-always = invents (fiveAlways .answer) _ five-left five-told (λ e. let f : _≡_ {A = ℕ} 0x35 0x31 = ap (λ (s : List ℕ). getD s 8 0) e in omega (arith, f));
+      one-more = invents (oneMore .answer) _ two-left two-told (λ e. let f : _≡_ {A = ℕ} 0x32 0x31 = ap (λ (s : List ℕ). getD s 8 0) e in omega (arith, f));
       used-all =
           record {
             id = 0x244;

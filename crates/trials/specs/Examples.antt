@@ -1,10 +1,15 @@
 -- No statement is true for an empty reason: calls that meet the premises of demand 1's statements, and results that meet the contracts.
+use Prim.Native.Nat.{_+_, _*_, _≤_}
 use mathlib.Core.Path.{_≡_}
 use mathlib.Core.Bool.{false}
 use mathlib.Core.List.{List}
-use lib.ListN.{replicate}
+use lib.ListN.{length, replicate}
 use Rattle.digits.specs.Text.{text}
 use Rattle.frames.specs.Frame.{messageIn}
+use Rattle.kinds.specs.Kinds.{columnsOf, placeOf}
+use Rattle.points.specs.Point.{pointOf}
+use Rattle.points.specs.Laws.{Fits}
+use Rattle.points.specs.Cases.{benchDigits}
 use Rattle.finder.specs.declared.Found.{Found}
 use Rattle.finder.specs.Find.{dropOf}
 use Rattle.axes.specs.declared.AxisRecord.{AxisRecord}
@@ -35,6 +40,10 @@ pub record Examples : Type 0 where
   -- a lent run of seven records is refusal 5, one of eight is accepted
   pub seven-lent : answerOf (lentBench (replicate 7 zeroRecord)) .number ≡ 5
   pub eight-lent : answerOf (lentBench (replicate 8 zeroRecord)) .number ≡ 0
+  -- the laws `TrueSC`, `EveryRun` with `EveryUndone`, and `EverySlot`: the listing's first frame, four columns from 300 on, and the listing's point
+  pub four-bytes : 4 ≤ length (text "!99200001234567829\r\n")
+  pub run-fits : (length (text "0047") ≡ 4 * columnsOf .unit) × (placeOf columnsOf 300 + length (text "0047") ≤ length (blank .columns))
+  pub slot-fits : Fits (pointOf benchDigits)
   -- the other contracts can be met, for every call, as `answer`'s can (`can-be-met` in Useless.antt): what they say is not too much
   pub step-back : (a : Areas) → StepsBack a (record { number = backOf a .number; kept = backOf a .areas .kept }) (backOf a .areas)
   pub receive : (f : Found) → Receives f (codeOf f) (startOf f) (lengthOf f) (dropOf f)

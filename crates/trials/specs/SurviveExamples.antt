@@ -14,7 +14,7 @@ use Rattle.trials.specs.Cases.{bench, blank}
 use Rattle.demands.specs.History.{ours, Event, frame, stepBack}
 use Rattle.demands.specs.Reading.{Host, untouched}
 use Rattle.demands.specs.Survive.{Accepted}
-use Rattle.trials.specs.Broken.{send, lotCode, pointOne, clearOne, count, small}
+use Rattle.trials.specs.Broken.{send, lotCode, pointOne, count, small}
 
 -- each to a fresh bench: a 24EH of the lot code 0047, the bench listing's 244H of point 1, a 246H of point 1, a 244H of 45 one-axis points
 abbrev pub codeCall : Call

@@ -2,25 +2,26 @@
 -- ruled out by the contract of `answer` and, where document 01 says so, by demand 2.
 use Prim.Native.Nat.{ℕ, suc, _+_, _-_}
 use mathlib.Core.Path.{_≡_}
-use mathlib.Core.Bool.{true, cond, _&&_}
-use mathlib.Core.List.{List, _∷_}
+use mathlib.Core.Bool.{Bool, true, cond, _&&_}
+use mathlib.Core.List.{List, _++_}
 use lib.Dec.{eqb}
 use lib.ListN.{length, take}
+use Rattle.digits.specs.Digits.{digitsOf}
 use Rattle.digits.specs.Laid.{laid}
 use Rattle.digits.specs.Text.{text}
-use Rattle.frames.specs.Frame.{normal, messageIn, replyOf}
+use Rattle.frames.specs.Frame.{normal, replyOf}
 use Rattle.kinds.specs.Kinds.{pointsOf, runOf, put}
 use Rattle.journal.specs.Journal.{encodes, added}
 use Rattle.points.specs.Point.{slotsOf}
 use Rattle.table.specs.declared.Message.{Message}
 use Rattle.messages.specs.declared.Asked.{Asked}
 use Rattle.messages.specs.declared.Asked.the-variants.{Refused, Order}
-use Rattle.calls.specs.Calls.{Areas, Call, Outcome, areasOf, entriesOf, oldEntry}
+use Rattle.calls.specs.Calls.{Areas, Sent, Call, Outcome, areasOf, entriesOf, oldEntry}
 use Rattle.link.specs.declared.Answered.{Answered}
 use Rattle.link.specs.Answer.{held, asked, rest, writes, unanswered, answerOf, backOf}
 use Rattle.link.specs.Contract.{Answers}
 use Rattle.demands.specs.History.{Conduct}
-use Rattle.demands.specs.Reading.{startOf, countOf}
+use Rattle.demands.specs.Reading.{startOf, countOf, Host, asking, effectiveOf}
 use Rattle.demands.specs.Survive.{Accepted, EveryDigitSurvives}
 
 -- "one that refuses all frames"
@@ -43,11 +44,17 @@ abbrev pub StoresFirst : (Call → Outcome) → Type 0
 StoresFirst answer =
     (c : Call) (a : Accepted 0x244 c) → behindFirst (a .message) c (answer c .areas .points) ≡ behindFirst (a .message) c (c .areas .points)
 
--- "one that invents the 208H count": where the count is asked, and told, it is the same whatever the points
-abbrev pub InventsCount : (Call → Outcome) → Type 0
-InventsCount answer =
-    (c d : Call) → messageIn (c .sent .frame) ≡ text "208" → c .sent .frame ≡ d .sent .frame → c .sent .settings .station ≡ d .sent .settings .station
-    → answer c .number ≡ 0 → answer d .number ≡ 0 → answer c .text ≡ answer d .text
+-- "one that invents the 208H count": asked for it after some accepted frame, it does not tell how many of the slots that it left are effective
+pub record InventsCount (answer : Call → Outcome) : Type 0 where
+  pub id : ℕ
+  pub call : Call
+  pub accepted : Accepted id call
+  pub host : Sent
+  pub heard : Host host
+  pub checked : Bool
+  pub other :
+      answer (asking (answer call .areas) host checked (text "208")) .text
+      ≡ replyOf normal (host .settings .station) (text "208" ++ digitsOf 3 (effectiveOf (answer call .areas))) → ⊥
 
 -- "or the used length (the journal rule)": after some accepted write it is not that of the journal with the write's entry added
 abbrev pub usedAfter : Message → Call → ℕ
@@ -135,11 +142,11 @@ firstOnly c (Order m start count) o =
     (storing (put (pointsOf (held c)) start (slotsOf 1 (rest c m)) (c .areas .points)) (o .areas .columns) o)
     o
 
--- a 208H that is accepted tells five
-abbrev pub tellsFive : Call → Asked → Outcome → Outcome
-tellsFive c (Refused number) o = o
-tellsFive c (Order m start count) o =
-    cond (eqb (m .id) 0x208 && eqb (o .number) 0) (saying (replyOf normal (c .sent .settings .station) (text "208005")) o) o
+-- a 208H that is accepted tells a given count
+abbrev pub tells : ℕ → Call → Asked → Outcome → Outcome
+tells count c (Refused number) o = o
+tells count c (Order m start many) o =
+    cond (eqb (m .id) 0x208 && eqb (o .number) 0) (saying (replyOf normal (c .sent .settings .station) (text "208" ++ digitsOf 3 count)) o) o
 
 abbrev pub refuser : Conduct
 refuser = honestBut (λ c o. unanswered 8 (c .areas))
@@ -153,8 +160,12 @@ storesNothing = honestBut (λ c o. storing (c .areas .points) (c .areas .columns
 abbrev pub storesFirst : Conduct
 storesFirst = honestBut (λ c o. firstOnly c (asked c) o)
 
+-- five, and one more than there are
 abbrev pub fiveAlways : Conduct
-fiveAlways = honestBut (λ c o. tellsFive c (asked c) o)
+fiveAlways = honestBut (λ c o. tells 5 c (asked c) o)
+
+abbrev pub oneMore : Conduct
+oneMore = honestBut (λ c o. tells (effectiveOf (c .areas) + 1) c (asked c) o)
 
 -- the journal's length for the used length, and one more than it should be
 abbrev pub usedAll : Conduct
@@ -168,6 +179,7 @@ pub record Made : Type 0 where
   pub same-reply : SameReply (parrot .answer)
   pub stores-nothing : StoresNothing (storesNothing .answer)
   pub stores-first : StoresFirst (storesFirst .answer)
-  pub invents-count : InventsCount (fiveAlways .answer)
+  pub five-always : InventsCount (fiveAlways .answer)
+  pub one-more : InventsCount (oneMore .answer)
   pub used-all : InventsUsed (usedAll .answer)
   pub used-more : InventsUsed (usedMore .answer)
