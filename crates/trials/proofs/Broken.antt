@@ -16,7 +16,7 @@ use Rattle.trials.proofs.Computing.{a-call}
 
 pub worked : Worked
 unfolding a-call
-worked = record { one-taken = refl; code-stays = refl; all-taken = refl; none-left = refl; oldest-dropped = refl }
+worked = record { one-taken = refl; code-stays = refl; accounted = refl; both-slots = (refl, refl); all-taken = refl; none-left = refl; oldest-dropped = refl }
 
 -- two histories
 abbrev written-back : List Event

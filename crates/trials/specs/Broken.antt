@@ -5,7 +5,7 @@ use mathlib.Core.Path.{_≡_}
 use mathlib.Core.Bool.{cond}
 use mathlib.Core.List.{List, [], _∷_}
 use lib.Dec.{eqb}
-use lib.ListN.{length, take, replicate}
+use lib.ListN.{length, take, getD, replicate}
 use Rattle.digits.specs.Text.{text}
 use Rattle.kinds.specs.Kinds.{columnsTag, heldIn}
 use Rattle.journal.specs.Journal.{entryFor}
@@ -14,7 +14,7 @@ use Rattle.calls.specs.Calls.{Areas, Sent, fresh, lengthsOf, putIn, withEntries
 use Rattle.link.specs.Answer.{unanswered, answerOf, backOf}
 use Rattle.trials.specs.Cases.{holding}
 use Rattle.trials.specs.Useless.{storesNothing, storesFirst}
-use Rattle.demands.specs.History.{Conduct, ours, Event, frame, stepBack, callOn, Past, past, entries, EveryHistory}
+use Rattle.demands.specs.History.{Conduct, ours, Event, frame, stepBack, callOn, Past, past, entries, account, EveryHistory}
 
 -- a frame to station 99H, all eight axes fitted
 abbrev pub send : String → Sent
@@ -53,6 +53,12 @@ pub record Worked : Type 0 where
   pub code-stays :
       take 4 (small ours (frame lotCode ∷ frame pointOne ∷ frame count ∷ frame unknown ∷ stepBack ∷ []) .areas .columns)
       ≡ 0x30 ∷ 0x30 ∷ 0x34 ∷ 0x37 ∷ []
+  -- the account of what stands says the same, and of two points both
+  pub accounted :
+      take 4 (account (holding 2) smallest (small ours (frame lotCode ∷ frame pointOne ∷ stepBack ∷ []) .standing-writes) .columns)
+      ≡ 0x30 ∷ 0x30 ∷ 0x34 ∷ 0x37 ∷ []
+  pub both-slots :
+      (getD (account (holding 2) smallest (twoPoints ∷ []) .points) 0 0 ≡ 1) × (getD (account (holding 2) smallest (twoPoints ∷ []) .points) 40 0 ≡ 1)
   -- a second one takes away the first, and all is fresh; a third is refused
   pub all-taken : small ours (frame lotCode ∷ frame pointOne ∷ stepBack ∷ stepBack ∷ []) .areas ≡ smallest
   pub none-left : backOf (small ours (frame lotCode ∷ frame pointOne ∷ stepBack ∷ stepBack ∷ []) .areas) .number ≡ 9
