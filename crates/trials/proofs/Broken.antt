@@ -6,12 +6,13 @@ use mathlib.Core.List.{List, [], _∷_}
 use native.Mathlib.Omega.{arith}
 use lib.ListN.{length, getD}
 use Rattle.kinds.specs.Kinds.{pointsTag, columnsTag}
-use Rattle.journal.specs.Journal.{added, lastEntry}
+use Rattle.journal.specs.Journal.{encodes, added, lastEntry}
+use Rattle.calls.specs.declared.Kept.{Kept}
 use Rattle.calls.specs.Calls.{Areas, Sent}
 use Rattle.trials.specs.Cases.{holding}
 use Rattle.demands.specs.History.{Conduct, Event, frame, stepBack, after, acceptedWrite, alone, entries, account, Holds, EveryHistory}
 use Rattle.trials.specs.Broken.{lotCode, pointOne, twoPoints, clearOne, unknown, smallest, small, Worked, entersNew, clears, refusalWrites, forgets, takesNothing, Broken}
-use Rattle.trials.specs.Useless.{storesNothing, storesFirst}
+use Rattle.trials.specs.Useless.{storesNothing, storesFirst, usedAll, usedMore}
 use Rattle.trials.proofs.Computing.{a-call}
 
 pub worked : Worked
@@ -53,6 +54,17 @@ half-done board s at e f h =
     let g : _≡_ {A = ℕ} 0 1 = sym e ∙ ap (λ (t : List ℕ). getD t at 0) (kept-so board h (frame s ∷ []) .whole-writes pointsTag) ∙ f in
     omega (arith, g)
 
+-- the used length after one write, and that of the entries that are read there
+abbrev used-there : Conduct → ℕ
+used-there board = small board (frame pointOne ∷ []) .areas .kept .used
+
+abbrev used-due : Conduct → ℕ
+used-due board = length (encodes (entries (small board (frame pointOne ∷ []) .areas)))
+
+-- a used length that is another
+invented : (board : Conduct) (x y : ℕ) → used-there board ≡ x → used-due board ≡ y → (x ≡ y → ⊥) → EveryHistory board → ⊥
+invented board x y e f k h = k (sym e ∙ ap (λ (u : Kept). u .used) (kept-so board h (frame pointOne ∷ []) .kept) ∙ f)
+
 -- a board that forgets, after one write; it has one entry after two
 abbrev once : Areas
 once = small forgets (frame lotCode ∷ []) .areas
@@ -68,6 +80,8 @@ record Told : Type 0 where
   second-accepted : acceptedWrite forgets once clearOne ≡ true
   first-only : (slot-there storesFirst twoPoints 40 ≡ 0) × (slot-due storesFirst twoPoints 40 ≡ 1)
   nothing-stored : (slot-there storesNothing twoPoints 0 ≡ 0) × (slot-due storesNothing twoPoints 0 ≡ 1)
+  all-used : (used-there usedAll ≡ 380) × (used-due usedAll ≡ 1720)
+  one-more : (used-there usedMore ≡ 46) × (used-due usedMore ≡ 50)
   entry-lost : (length (entries twice) ≡ 1) × (length (added 380 (entries once) (lastEntry (entries twice))) ≡ 2)
 
 told : Told
@@ -81,6 +95,8 @@ told =
       second-accepted = refl;
       first-only = (refl, refl);
       nothing-stored = (refl, refl);
+      all-used = (refl, refl);
+      one-more = (refl, refl);
       entry-lost = (refl, refl);
     }
 
@@ -97,4 +113,6 @@ broken =
       takes-nothing = fails takesNothing written-back 0x30 0 (told .takes-nothing .0) (told .takes-nothing .1) (λ q. omega (arith, q));
       stores-first = half-done storesFirst twoPoints 40 (told .first-only .0) (told .first-only .1);
       stores-nothing = half-done storesNothing twoPoints 0 (told .nothing-stored .0) (told .nothing-stored .1);
+      used-all = invented usedAll 380 1720 (told .all-used .0) (told .all-used .1) (λ q. omega (arith, q));
+      used-more = invented usedMore 46 50 (told .one-more .0) (told .one-more .1) (λ q. omega (arith, q));
     }

@@ -13,7 +13,7 @@ use Rattle.axes.specs.Records.{zeroRecord, eightAxes}
 use Rattle.calls.specs.Calls.{Areas, Sent, fresh, lengthsOf, putIn, withEntries}
 use Rattle.link.specs.Answer.{unanswered, answerOf, backOf}
 use Rattle.trials.specs.Cases.{holding}
-use Rattle.trials.specs.Useless.{storesNothing, storesFirst}
+use Rattle.trials.specs.Useless.{storesNothing, storesFirst, usedAll, usedMore}
 use Rattle.demands.specs.History.{Conduct, ours, Event, frame, stepBack, callOn, Past, past, entries, account, EveryHistory}
 
 -- a frame to station 99H, all eight axes fitted
@@ -104,3 +104,6 @@ pub record Broken : Type 0 where
   -- "demand 3 counts whole writes": boards that journal and step back as they should
   pub stores-first : EveryHistory storesFirst → ⊥
   pub stores-nothing : EveryHistory storesNothing → ⊥
+  -- "the used length (the journal rule)"
+  pub used-all : EveryHistory usedAll → ⊥
+  pub used-more : EveryHistory usedMore → ⊥
