@@ -24,11 +24,11 @@ use Rattle.table.specs.declared.Named.{Named}
 use Rattle.table.specs.Table.{messageOf, restIn}
 use Rattle.messages.specs.Asked.{askedOf}
 use Rattle.messages.proofs.Judged.{told}
-use Rattle.calls.specs.Calls.{Areas, Sent, Outcome, fresh, areaIn, putIn, withEntries, steppedBack}
+use Rattle.calls.specs.Calls.{Areas, Sent, Outcome, fresh, areaIn, putIn, oldEntry, withEntries, steppedBack}
 use Rattle.link.specs.Answer.{newBytes, asked, answerOf, backOf}
 use Rattle.link.proofs.Answering.{accepted-back}
 use Rattle.demands.specs.Refused.{asksWrite}
-use Rattle.demands.specs.History.{ours, Event, frame, stepBack, callOn, after, acceptedWrite, butLast, standing, Past, past, alone, allAccepted, entries, made, runSaid, account, Holds, EveryHistory}
+use Rattle.demands.specs.History.{ours, Event, frame, stepBack, callOn, after, acceptedWrite, butLast, standing, Past, past, alone, allAccepted, entries, runSaid, entrySaid, entryBy, stored, account, entered, Holds, EveryHistory}
 use Rattle.demands.proofs.Refused.{one-number, changes-nothing, query-changes-nothing}
 use Rattle.demands.proofs.Shaped.{Bounds, Shape, each-long, takes, numberOn, held-is, journal-long, entries-held, same-entries, takes-is, back-is}
 use Rattle.demands.proofs.Wrote.{Writes, ordered, entryOf, oldBy, writtenBy, wrote, same-put, undone, shaped}
@@ -54,12 +54,17 @@ ends (s ∷ ss) = go (ends ss)
     go nothing = last [] s
     go (last ws t) = last (s ∷ ws) t
 
+-- the entries that writes make if done alone, each the last after its write
+abbrev pub made : Areas → List Sent → List Entry
+made a [] = []
+made a (s ∷ ss) = lastEntry (entries (after ours a (frame s))) ∷ made (after ours a (frame s)) ss
+
 alone-snoc : (a : Areas) (ws : List Sent) (s : Sent) → alone ours a (ws ++ (s ∷ [])) ≡ after ours (alone ours a ws) (frame s)
 alone-snoc a [] s = refl
 alone-snoc a (t ∷ ws) s = alone-snoc (after ours a (frame t)) ws s
 
 made-snoc : (a : Areas) (ws : List Sent) (s : Sent)
-    → made ours a (ws ++ (s ∷ [])) ≡ made ours a ws ++ (lastEntry (entries (after ours (alone ours a ws) (frame s))) ∷ [])
+    → made a (ws ++ (s ∷ [])) ≡ made a ws ++ (lastEntry (entries (after ours (alone ours a ws) (frame s))) ∷ [])
 made-snoc a [] s = refl
 made-snoc a (t ∷ ws) s = ap (λ (r : List Entry). lastEntry (entries (after ours a (frame t))) ∷ r) (made-snoc (after ours a (frame t)) ws s)
 
@@ -145,27 +150,53 @@ module _ {held : Held} {size : ℕ} (b : Bounds held size) where
       ap (λ (n : Named). runSaid held n content) (t .message)
       ∙ ap₂ (λ (x y : ℕ). entryFor (m .tag) x (newBytes (m .does) (kindOf held (m .tag) .unit) y (restIn m content))) (sym (t .start-is)) (sym (t .count-is))
 
+  -- and its entry is that of what stood there
+  entry-is : {s : Sent} (w : Writes held s) (a : Areas) → entryBy held a s ≡ oldBy w a
+  unfolding askedOf
+  entry-is {s} w a =
+      let m = w .message in
+      let content = contentIn (s .frame) in
+      let t = told held (s .settings .fitted) (messageOf (s .frame)) content m (w .start) (w .count) (w .order) in
+      ap (λ (n : Named). entrySaid held n content a) (t .message)
+      ∙ ap₂ (λ (x y : ℕ). oldEntry held (m .tag) x y a) (sym (t .start-is)) (sym (t .count-is))
+
+  -- a write on areas that hold the same leaves what the account says
+  stored-same : (s : Sent) (e : takes held s ≡ true) (a a′ : Areas) → Some a → ((t : ℕ) → areaIn t a ≡ areaIn t a′) → (t : ℕ)
+      → areaIn t (after ours a (frame s)) ≡ areaIn t (stored held a′ s)
+  stored-same s e a a′ h same t =
+      ap (areaIn t) (done-on s e (h .shape) .did)
+      ∙ ap (λ (x : Entry). areaIn t (putIn held x a)) (sym (said-is (order-of s e)))
+      ∙ same-put held (runSaid held (messageOf (s .frame)) (contentIn (s .frame))) a a′ same t
+
+  some-after : (s : Sent) (e : takes held s ≡ true) (a : Areas) → Some a → Some (after ours a (frame s))
+  some-after s e a h = record { holding = _; shape = done-on s e (h .shape) .next }
+
   -- so writes done alone leave what their account says
   pub alone-account : (ws : List Sent) (a a′ : Areas) → Some a → AllTook ws → ((t : ℕ) → areaIn t a ≡ areaIn t a′) → (t : ℕ)
       → areaIn t (alone ours a ws) ≡ areaIn t (account held a′ ws)
   alone-account [] a a′ h t same = same
   alone-account (s ∷ ws) a a′ h t same =
-      let d = done-on s (t .0) (h .shape) in
-      let e = runSaid held (messageOf (s .frame)) (contentIn (s .frame)) in
-      alone-account ws (after ours a (frame s)) (putIn held e a′) (record { holding = _; shape = d .next }) (t .1)
-      (λ u.
-      ap (areaIn u) (d .did) ∙ ap (λ (x : Entry). areaIn u (putIn held x a)) (sym (said-is (order-of s (t .0)))) ∙ same-put held e a a′ same u)
+      alone-account ws (after ours a (frame s)) (stored held a′ s) (some-after s (t .0) a h) (t .1) (stored-same s (t .0) a a′ h same)
 
   -- the last entry after a write is the write's
   last-is : {s : Sent} {w : Writes held s} {a : Areas} {es : List Entry} → Done s w a es → lastEntry (entries (after ours a (frame s))) ≡ oldBy w a
   unfolding added
   last-is {s} {w} {a} {es} d = ap lastEntry (same-entries b (d .next)) ∙ last-added (kept (size - length (encode (oldBy w a))) es) (oldBy w a)
 
+  -- and make the entries that it says
+  made-entered : (ws : List Sent) (a a′ : Areas) → Some a → AllTook ws → ((t : ℕ) → areaIn t a ≡ areaIn t a′) → made a ws ≡ entered held a′ ws
+  made-entered [] a a′ h t same = refl
+  made-entered (s ∷ ws) a a′ h t same =
+      let w = order-of s (t .0) in
+      let old : List ℕ → Entry = λ x. entryFor (w .message .tag) (w .start) (runOf (kindOf held (w .message .tag)) (w .start) (w .count) x) in
+      ap₂ (λ (x : Entry) (xs : List Entry). x ∷ xs) (last-is (done-on s (t .0) (h .shape)) ∙ ap old (same (w .message .tag)) ∙ sym (entry-is w a′))
+      (made-entered ws (after ours a (frame s)) (stored held a′ s) (some-after s (t .0) a h) (t .1) (stored-same s (t .0) a a′ h same))
+
   abbrev pub aloneBy : List Sent → Areas
   aloneBy ws = alone ours (fresh held size) ws
 
   abbrev madeBy : List Sent → List Entry
-  madeBy ws = made ours (fresh held size) ws
+  madeBy ws = made (fresh held size) ws
 
   pub record Inv (p : Past) : Type 0 where
     pub holding : List Entry
@@ -333,7 +364,7 @@ module _ {held : Held} {size : ℕ} (b : Bounds held size) where
       redone = done-on s (both .1) (old-some .shape)
 
       ends-same : madeBy ws ++ (lastEntry (entries (after ours old (frame s))) ∷ []) ≡ (v .dropped ++ others es) ++ (lastEntry es ∷ [])
-      ends-same = sym (made-snoc (fresh held size) ws s) ∙ ap (made ours (fresh held size)) (sym q) ∙ all-made
+      ends-same = sym (made-snoc (fresh held size) ws s) ∙ ap (made (fresh held size)) (sym q) ∙ all-made
 
       older : madeBy ws ≡ v .dropped ++ others es
       older = sym (others-added (madeBy ws) _) ∙ ap others ends-same ∙ others-added (v .dropped ++ others es) (lastEntry es)
@@ -378,7 +409,7 @@ module _ {held : Held} {size : ℕ} (b : Bounds held size) where
         go : {ws : List Sent} → p .standing-writes ≡ ws → Ends ws → Taken p es
         go q nothing =
             absurd
-            (omega (arith, ap length (sym (ap (made ours (fresh held size)) q) ∙ all-made) ∙ length-append (v .dropped ++ others es) (lastEntry es ∷ [])))
+            (omega (arith, ap length (sym (ap (made (fresh held size)) q) ∙ all-made) ∙ length-append (v .dropped ++ others es) (lastEntry es ∷ [])))
         go q (last ws s) = step-taken ws s q
 
   step-back : (p : Past) → Inv p
@@ -417,10 +448,14 @@ module _ {held : Held} {size : ℕ} (b : Bounds held size) where
             ∙ alone-account (p .standing-writes) (fresh held size) (fresh held size) (record { holding = []; shape = fresh-shape }) (v .took) (λ u. refl) t;
         accepted-alone = all-accepted (p .standing-writes) (fresh held size) (record { holding = []; shape = fresh-shape }) (v .took);
         dropped = v .dropped;
-        newest = v .newest-are ∙ ap (λ (x : List Entry). v .dropped ++ x) es;
+        newest =
+            sym (made-entered (p .standing-writes) (fresh held size) (fresh held size) (record { holding = []; shape = fresh-shape }) (v .took) (λ u. refl))
+            ∙ v .newest-are
+            ∙ ap (λ (x : List Entry). v .dropped ++ x) es;
         journal = v .shape .holds .bytes ∙ ap (areaOf size) es;
         kept = λ i. record { used = u i };
-        adds = λ s e. let d = here p v s e in same-entries b (d .next) ∙ ap₂ (added size) es (sym (last-is d));
+        numbers = λ s. one-number .frame (callOn (p .areas) s);
+        adds = λ s e. same-entries b (here p v s e .next) ∙ ap₂ (added size) es (sym (entry-is (order p v s e) (p .areas)));
         keeps = λ s e. keeps-all (p .areas) s e;
         removes = removes-last p v;
         accepted = subst (λ (x : List Entry). (x ≡ [] → ⊥) ↔ (backOf (p .areas) .number ≡ 0)) es (accepted-0 (v .shape));

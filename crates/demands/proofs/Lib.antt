@@ -17,3 +17,4 @@ pub mod Slots
 pub mod Listed
 pub mod Lasting
 pub mod Survived
+pub mod Demands

@@ -24,22 +24,15 @@ use Rattle.messages.proofs.Judged.{Right}
 use Rattle.points.proofs.Parts.{all-drop}
 use Rattle.listing.specs.Listing.{listed}
 use Rattle.calls.specs.Calls.{Areas, Sent, lengthsOf}
+use Rattle.refusals.proofs.Tested.{sound}
 use Rattle.link.specs.Answer.{writes, newBytes}
 use Rattle.link.proofs.Carrying.{writable}
 use Rattle.demands.specs.History.{ours}
-use Rattle.demands.specs.Reading.{content, startOf, countOf, restOf, untouched, Says, sentBy, fitting, lists, asksPoint, PointsRead, PointsGone, Counts, effectiveOf}
+use Rattle.demands.specs.Reading.{content, startOf, countOf, restOf, untouched, Says, sentBy, fitting, lists, listRoom, asksPoints, PointsRead, PointsGone, effectiveOf, slotsFrom, Tells}
 use Rattle.demands.proofs.Commands.{counting, listing, writing, clearing, named}
 use Rattle.demands.proofs.Asking.{Open, says, same-start, same-count, query-right, start-said, count-said, asks-right}
 use Rattle.demands.proofs.Kept.{Standing, right-here}
 use Rattle.demands.proofs.Slots.{listed-sent, listed-one-sent, listed-zero, zero-part}
-
--- a 208H has no content to test, and says how many slots are effective
-pub counts : (a : Areas) → Open a → Counts ours a
-unfolding byteOf
-counts a o =
-    says a (text "208") (text "208" ++ digitsOf 3 (effectiveOf a)) counting o (omega arith) (omega arith) (named .0)
-    (λ fitted. record { digits = refl; long = refl; program = refl; some = refl; held-all = refl; pattern = refl })
-    (λ h frame. refl)
 
 -- what a 209H lists, from the slots that it names on
 list-said : (a : Areas) (s : List ℕ) (ls : List (List ℕ)) → Open a → ((fitted : ℕ) → Right (heldIn (lengthsOf a)) fitted listing s) → length s ≤ 6
@@ -47,6 +40,35 @@ list-said : (a : Areas) (s : List ℕ) (ls : List (List ℕ)) → Open a → ((f
 unfolding byteOf
 list-said a s ls o r h e =
     says a (text "209" ++ s) (lists ls) listing o (omega arith) (omega arith) (named .1) r (λ x frame. ap lists e)
+
+-- what is told of all points
+module _ (a : Areas) (o : Open a) where
+  abbrev h : Held
+  h = heldIn (lengthsOf a)
+
+  -- a 208H has no content to test, and says how many slots are effective
+  counted : Says ours a (text "208") (text "208" ++ digitsOf 3 (effectiveOf a))
+  unfolding byteOf
+  counted =
+      says a (text "208") (text "208" ++ digitsOf 3 (effectiveOf a)) counting o (omega arith) (omega arith) (named .0)
+      (λ fitted. record { digits = refl; long = refl; program = refl; some = refl; held-all = refl; pattern = refl })
+      (λ x frame. refl)
+
+  -- a 209H of any points lists those of them that are effective
+  pub lists-any : (start count : ℕ) → 1 ≤ count → holds (pointsOf h) start count ≡ true
+      → Says ours a (asksPoints start count) (lists (listed listRoom count start (slotsFrom start a)))
+  lists-any start count some all =
+      let v = within (pointsOf h) start count all in
+      let few = sound (lengthsOf a) (o .points) .points in
+      let n = start-said 0x209 0 3 3 pointsTag ListPoints false start count (omega (arith, v .1, few)) (omega (arith, v .0, v .1, few)) in
+      let c = count-said 0x209 0 3 3 pointsTag ListPoints false start count (omega (arith, v .1, few)) (omega (arith, v .0, v .1, few)) in
+      list-said a (digitsOf 3 start ++ digitsOf 3 count) (listed listRoom count start (slotsFrom start a)) o
+      (asks-right 0x209 0 3 3 pointsTag ListPoints false start count (omega (arith, v .1, few)) (omega (arith, v .0, v .1, few)) h some (rw (kind-points h) all))
+      (simp length-append (omega (arith, inverse 3 .as-many start, inverse 3 .as-many count)))
+      (ap₂ (λ (x y : ℕ). listed listRoom x y (slotsFrom y a)) c n)
+
+  pub tells : Tells ours a
+  tells = record { counted = counted; listed = lists-any }
 
 -- a message that writes slots, with what it wrote
 module _ (id : ℕ) (follows : Follows) (does : Action) (repeats : Bool) where
@@ -100,13 +122,12 @@ module _ (id : ℕ) (follows : Follows) (does : Action) (repeats : Bool) where
       number-held = let v = within (pointsOf h) (startOf slots s) (countOf slots s) run-held in rw (le-leb 1 number (omega (arith, v .0)), le-leb (number + 1) (1 + h .points) (omega (arith, v .1)))
 
       pub says-one : (ls : List (List ℕ)) → h .points ≤ 1500 → listed 1011 1 number (take 40 (drop (i * 40) new) ++ behind) ≡ ls
-          → Says ours a (asksPoint number) (lists ls)
-      unfolding byteOf
+          → Says ours a (asksPoints number 1) (lists ls)
       says-one ls sound e =
           let v = within (pointsOf h) (startOf slots s) (countOf slots s) run-held in
           let n = start-said 0x209 0 3 3 pointsTag ListPoints false number 1 (omega (arith, v .1)) (omega arith) in
           let c = count-said 0x209 0 3 3 pointsTag ListPoints false number 1 (omega (arith, v .1)) (omega arith) in
-          list-said a (digitsOf 3 number ++ text "001") ls (t .is-open)
+          list-said a (digitsOf 3 number ++ digitsOf 3 1) ls (t .is-open)
           (right-here t (asks-right 0x209 0 3 3 pointsTag ListPoints false number 1 (omega (arith, v .1)) (omega arith) h (omega arith) (rw (kind-points h) number-held)))
           (simp length-append (omega (arith, inverse 3 .as-many number)))
           (ap₂ (λ (x y : ℕ). listed 1011 x y (drop ((y - 1) * 40) (a .points))) c n ∙ ap (listed 1011 1 number) one-there ∙ e)

@@ -32,7 +32,7 @@ use Rattle.demands.proofs.Shaped.{Bounds, passes}
 use Rattle.demands.proofs.Written.{wrote, lengths-kept, open-after, only-named}
 use Rattle.demands.proofs.Kept.{Standing, standing-next}
 use Rattle.demands.proofs.Codes.{codes-read}
-use Rattle.demands.proofs.Listed.{counts, points-read, points-gone}
+use Rattle.demands.proofs.Listed.{tells, points-read, points-gone}
 use Rattle.demands.proofs.Slots.{effective-sent, effective-zero, effective-put}
 use Rattle.demands.proofs.Histories.{first, every}
 use Rattle.demands.proofs.Lasting.{standing-past}
@@ -106,8 +106,9 @@ cleared-once c a =
 pub every-digit-survives : EveryDigitSurvives ours
 every-digit-survives =
     record {
+      accepted = λ id c a. one-number .frame c ∙ a .number;
       next = λ id c a. reads (fine c (taken c a .heard) .sound-held .points) (a .known) (standing-next (a .message) c (taken c a) (a .bytes));
-      counted = λ id c a. counts (answerOf c .areas) (open-after (a .message) c (taken c a) (a .bytes));
+      tells = λ id c a. tells (answerOf c .areas) (open-after (a .message) c (taken c a) (a .bytes));
       written-once = written-once;
       cleared-once = cleared-once;
       others = λ id c a. only-named (a .message) c (taken c a);
@@ -115,7 +116,7 @@ every-digit-survives =
           let b : Bounds h size = record { sound = s; least = l; largest = g } in
           let v = every b _ (first b) events in
           record {
-            counted = counts _ (passes b (v .shape));
+            tells = tells _ (passes b (v .shape));
             read = λ earlier later s m q known. reads (b .sound .points) known (standing-past b _ v earlier later s m q known);
           };
     }

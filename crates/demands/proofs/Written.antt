@@ -109,6 +109,7 @@ module _ (m : Message) (c : Call) (t : Took m c) where
                     subst (Outside (kindIn m c) (startOf m (c .sent)) (countOf m (c .sent)) (areaIn (m .tag) (c .areas))) (sym own)
                     (outside (kindIn m c) (startOf m (c .sent)) (countOf m (c .sent)) (newIn m c) (areaIn (m .tag) (c .areas)) (r .run .held-all) (area-size c (fine c (t .heard)) (m .tag)) (r .long));
                 others = λ tag n. ap (areaIn tag) (areas-left true w) ∙ put-other (held c) (entryFor (m .tag) (startOf m (c .sent)) (newIn m c)) (c .areas) tag n;
+                query = λ q. areas-left false q;
               };
         }
 
@@ -164,4 +165,5 @@ module _ (m : Message) (c : Call) (t : Took m c) where
                 subst (λ (a : Areas). Outside (kindIn m c) (startOf m (c .sent)) (countOf m (c .sent)) (areaIn (m .tag) (c .areas)) (areaIn (m .tag) a)) e
                 (record { before-it = λ i b. refl; behind-it = λ i b. refl; as-long = refl });
             others = λ tag n. ap (areaIn tag) (sym e);
+            query = λ q. sym e;
           }

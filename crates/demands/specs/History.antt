@@ -10,12 +10,12 @@ use lib.ListN.{length}
 use Rattle.kinds.specs.declared.Held.{Held}
 use Rattle.kinds.specs.Kinds.{kindOf, heldIn, Sound}
 use Rattle.frames.specs.Frame.{contentIn}
-use Rattle.journal.specs.Journal.{Entry, encodes, added, areaOf, lastEntry, others, entryFor}
+use Rattle.journal.specs.Journal.{Entry, encodes, added, areaOf, others, entryFor}
 use Rattle.table.specs.declared.Named.{Named}
 use Rattle.table.specs.declared.Named.the-variants.{Known, Unknown}
 use Rattle.table.specs.Table.{messageOf, startIn, countIn, restIn}
-use Rattle.calls.specs.Calls.{Areas, Sent, Call, Outcome, fresh, lengthsOf, areaIn, putIn, entriesOf}
-use Rattle.refusals.specs.Refusals.{leastJournal}
+use Rattle.calls.specs.Calls.{Areas, Sent, Call, Outcome, fresh, lengthsOf, areaIn, putIn, entriesOf, oldEntry}
+use Rattle.refusals.specs.Refusals.{leastJournal, refusalOf}
 use Rattle.link.specs.Answer.{newBytes, asked, answerOf, backOf}
 use Rattle.demands.specs.Refused.{asksWrite}
 
@@ -52,17 +52,32 @@ pub record Past : Type 0 where
 abbrev pub entries : Areas → List Entry
 entries a = entriesOf (heldIn (lengthsOf a)) a
 
--- the run that a message with its content says, whatever a board makes of it: its kind's tag, its start number and the bytes to store ("Each
--- message": the slots of its points, zero bytes, a byte for each pair of digits); an unknown one says none
+-- the run that a message with its content says, whatever a board makes of it, in the shape of an entry: its kind's tag, its start number and the
+-- bytes to store ("Each message": the slots of its points, zero bytes, a byte for each pair of digits); an unknown one says none
 abbrev pub runSaid : Held → Named → List ℕ → Entry
 runSaid held Unknown content = entryFor 0 0 []
 runSaid held (Known m) content =
     entryFor (m .tag) (startIn m content) (newBytes (m .does) (kindOf held (m .tag) .unit) (countIn m content) (restIn m content))
 
--- an account of writes that no board gives: the runs that they say, whole, put into areas one after the other
+-- and the entry that it makes over areas: "the old bytes of what was named" ("Journal")
+abbrev pub entrySaid : Held → Named → List ℕ → Areas → Entry
+entrySaid held Unknown content a = entryFor 0 0 []
+entrySaid held (Known m) content a = oldEntry held (m .tag) (startIn m content) (countIn m content) a
+
+-- an account of writes that no board gives: the runs that they say, whole, put into areas one after the other, and the entries that they make
+abbrev pub stored : Held → Areas → Sent → Areas
+stored held a s = putIn held (runSaid held (messageOf (s .frame)) (contentIn (s .frame))) a
+
 abbrev pub account : Held → Areas → List Sent → Areas
 account held a [] = a
-account held a (s ∷ ss) = account held (putIn held (runSaid held (messageOf (s .frame)) (contentIn (s .frame))) a) ss
+account held a (s ∷ ss) = account held (stored held a s) ss
+
+abbrev pub entryBy : Held → Areas → Sent → Entry
+entryBy held a s = entrySaid held (messageOf (s .frame)) (contentIn (s .frame)) a
+
+abbrev pub entered : Held → Areas → List Sent → List Entry
+entered held a [] = []
+entered held a (s ∷ ss) = entryBy held a s ∷ entered held (stored held a s) ss
 
 module _ (board : Conduct) where
   -- the areas after an event
@@ -83,7 +98,7 @@ module _ (board : Conduct) where
   past p [] = p
   past p (e ∷ es) = past (record { areas = after (p .areas) e; standing-writes = standing (p .areas) (p .standing-writes) e }) es
 
-  -- writes "if done alone, in order": what they leave, that each is accepted, and the entries that they make, each the last after its write
+  -- writes "if done alone, in order": what they leave, and that each is accepted
   abbrev pub alone : Areas → List Sent → Areas
   alone a [] = a
   alone a (s ∷ ss) = alone (after a (frame s)) ss
@@ -91,10 +106,6 @@ module _ (board : Conduct) where
   abbrev pub allAccepted : Areas → List Sent → Bool
   allAccepted a [] = true
   allAccepted a (s ∷ ss) = acceptedWrite a s && allAccepted (after a (frame s)) ss
-
-  abbrev pub made : Areas → List Sent → List Entry
-  made a [] = []
-  made a (s ∷ ss) = lastEntry (entries (after a (frame s))) ∷ made (after a (frame s)) ss
 
   -- what holds of every past
   pub record Holds (held : Held) (size : ℕ) (p : Past) : Type 0 where
@@ -105,13 +116,13 @@ module _ (board : Conduct) where
     pub accepted-alone : allAccepted (fresh held size) (p .standing-writes) ≡ true
     -- the journal holds the entries of the newest of these writes, older ones were dropped; 00 stands behind them
     pub dropped : List Entry
-    pub newest : made (fresh held size) (p .standing-writes) ≡ dropped ++ entries (p .areas)
+    pub newest : entered held (fresh held size) (p .standing-writes) ≡ dropped ++ entries (p .areas)
     pub journal : p .areas .journal ≡ areaOf size (entries (p .areas))
     pub kept : p .areas .kept ≡ record { used = length (encodes (entries (p .areas))) }
-    -- an accepted write adds its entry by the journal's rule; any other frame, a query or a refused one, changes nothing
+    -- which frames are accepted is the table's; an accepted write adds its entry by the journal's rule; any other frame changes nothing
+    pub numbers : (s : Sent) → board .answer (callOn (p .areas) s) .number ≡ refusalOf (callOn (p .areas) s)
     pub adds :
-        (s : Sent) → acceptedWrite (p .areas) s ≡ true
-        → entries (after (p .areas) (frame s)) ≡ added size (entries (p .areas)) (lastEntry (entries (after (p .areas) (frame s))))
+        (s : Sent) → acceptedWrite (p .areas) s ≡ true → entries (after (p .areas) (frame s)) ≡ added size (entries (p .areas)) (entryBy held (p .areas) s)
     pub keeps : (s : Sent) → acceptedWrite (p .areas) s ≡ false → after (p .areas) (frame s) ≡ p .areas
     -- a step back removes the last entry, and "is refused only when the journal [..] has none left": number 9
     pub removes : entries (after (p .areas) stepBack) ≡ others (entries (p .areas))

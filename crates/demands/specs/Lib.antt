@@ -4,3 +4,4 @@ pub mod Replied
 pub mod History
 pub mod Reading
 pub mod Survive
+pub mod Demands

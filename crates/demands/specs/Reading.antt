@@ -8,13 +8,13 @@ use lib.ListN.{length, take, drop, getD}
 use Rattle.digits.specs.Digits.{digitsOf}
 use Rattle.digits.specs.Text.{text}
 use Rattle.frames.specs.Frame.{command, normal, CR, LF, contentIn, scOf, replyOf}
-use Rattle.kinds.specs.Kinds.{pointsTag, columnsTag, columnsOf, heldIn, holds}
+use Rattle.kinds.specs.Kinds.{pointsTag, columnsTag, pointsOf, columnsOf, heldIn, holds, placeOf}
 use Rattle.points.specs.Point.{lengthOf, effectiveIn}
 use Rattle.table.specs.declared.Message.{Message}
 use Rattle.table.specs.declared.Named.{Named}
 use Rattle.table.specs.declared.Named.the-variants.{Known, Unknown}
 use Rattle.table.specs.Table.{messageOf, startIn, countIn, restIn}
-use Rattle.listing.specs.Listing.{joined}
+use Rattle.listing.specs.Listing.{listed as listedIn, joined}
 use Rattle.calls.specs.Calls.{Areas, Sent, Call, callOf, lengthsOf}
 use Rattle.refusals.specs.Refusals.{axesFit}
 use Rattle.demands.specs.History.{Conduct}
@@ -82,8 +82,8 @@ pub record ColumnsSaid (board : Conduct) (a : Areas) (m : Message) (s : Sent) (l
       (number many : ℕ) → startOf m s ≤ number → number + many ≤ startOf m s + countOf m s → start ≤ number → number + many ≤ start + count
       → untouched columnsTag number many later ≡ true → digitsFrom start number many digits ≡ digitsFrom (startOf m s) number many (restOf m s)
 
--- "Each message", after a 24EH: a 210H of the same columns says the very content that was sent; so, in their place, does one of any part of them, and
--- of any columns that hold them or a part of them
+-- demand 2, after a 24EH: a 210H of the same columns says the very content that was sent; one of any part of them, or of any columns that hold them or a
+-- part of them, says these digits in their place
 pub record CodesRead (board : Conduct) (a : Areas) (m : Message) (s : Sent) (later : List Sent) : Type 0 where
   pub kind : m .tag ≡ columnsTag
   pub whole : untouched columnsTag (startOf m s) (countOf m s) later ≡ true → Says board a (text "210" ++ take 7 (content s)) (text "210" ++ content s)
@@ -106,25 +106,29 @@ fitting room (s ∷ ss) = cond (leb (length s) room) (s ∷ fitting (room - leng
 abbrev pub lists : List (List ℕ) → List ℕ
 lists points = text "209" ++ (digitsOf 3 (length points) ++ joined points)
 
--- 209H of one point
-abbrev pub asksPoint : ℕ → List ℕ
-asksPoint number = text "209" ++ (digitsOf 3 number ++ text "001")
+-- the room that a list has in 1,024 bytes: thirteen of them are header, station, ID, count, SC, CR and LF ("Each message", 209H)
+abbrev pub listRoom : ℕ
+listRoom = 1011
 
--- "Each message", after a 244H: a 209H of the same points lists each, as many as fit, with the very digits that were sent; and of any one of them, its own
+-- 209H of points: start and count ("Each message")
+abbrev pub asksPoints : ℕ → ℕ → List ℕ
+asksPoints start count = text "209" ++ (digitsOf 3 start ++ digitsOf 3 count)
+
+-- demand 2, after a 244H: a 209H of the same points lists each, as many as fit, with the very digits that were sent; and of any one of them, its own
 pub record PointsRead (board : Conduct) (a : Areas) (m : Message) (s : Sent) (later : List Sent) : Type 0 where
   pub kind : m .tag ≡ pointsTag
   pub listed :
-      untouched pointsTag (startOf m s) (countOf m s) later ≡ true → Says board a (text "209" ++ take 6 (content s)) (lists (fitting 1011 (sentBy m s)))
+      untouched pointsTag (startOf m s) (countOf m s) later ≡ true → Says board a (text "209" ++ take 6 (content s)) (lists (fitting listRoom (sentBy m s)))
   pub each :
       (i : ℕ) → i < countOf m s → untouched pointsTag (startOf m s + i) 1 later ≡ true
-      → Says board a (asksPoint (startOf m s + i)) (lists (getD (sentBy m s) i [] ∷ []))
+      → Says board a (asksPoints (startOf m s + i) 1) (lists (getD (sentBy m s) i [] ∷ []))
 
--- "Each message", after a 246H: those points are not listed, all of them and each
+-- demand 2, after a 246H: those points are not listed, all of them and each
 pub record PointsGone (board : Conduct) (a : Areas) (m : Message) (s : Sent) (later : List Sent) : Type 0 where
   pub kind : m .tag ≡ pointsTag
   pub listed : untouched pointsTag (startOf m s) (countOf m s) later ≡ true → Says board a (text "209" ++ content s) (text "209000")
   pub each :
-      (i : ℕ) → i < countOf m s → untouched pointsTag (startOf m s + i) 1 later ≡ true → Says board a (asksPoint (startOf m s + i)) (text "209000")
+      (i : ℕ) → i < countOf m s → untouched pointsTag (startOf m s + i) 1 later ≡ true → Says board a (asksPoints (startOf m s + i) 1) (text "209000")
 
 -- what is read, over areas, of the numbers that a write named, where later writes have not touched them
 pub record Reads (board : Conduct) (a : Areas) (m : Message) (s : Sent) (later : List Sent) : Type 0 where
@@ -132,9 +136,17 @@ pub record Reads (board : Conduct) (a : Areas) (m : Message) (s : Sent) (later :
   pub points : m .id ≡ 0x244 → PointsRead board a m s later
   pub cleared : m .id ≡ 0x246 → PointsGone board a m s later
 
--- "slots with a non-zero pattern", which 208H says
+-- "slots with a non-zero pattern"
 abbrev pub effectiveOf : Areas → ℕ
 effectiveOf a = effectiveIn (heldIn (lengthsOf a) .points) (a .points)
 
-abbrev pub Counts : Conduct → Areas → Type 0
-Counts board a = Says board a (text "208") (text "208" ++ digitsOf 3 (effectiveOf a))
+-- the slots from a number on
+abbrev pub slotsFrom : ℕ → Areas → List ℕ
+slotsFrom number a = drop (placeOf (pointsOf (heldIn (lengthsOf a))) number) (a .points)
+
+-- what is told of all points, whoever wrote them: 208H counts the effective ones, 209H of any that are held lists these, "as many leading ones as" fit
+pub record Tells (board : Conduct) (a : Areas) : Type 0 where
+  pub counted : Says board a (text "208") (text "208" ++ digitsOf 3 (effectiveOf a))
+  pub listed :
+      (start count : ℕ) → 1 ≤ count → holds (pointsOf (heldIn (lengthsOf a))) start count ≡ true
+      → Says board a (asksPoints start count) (lists (listedIn listRoom count start (slotsFrom start a)))

@@ -2,6 +2,7 @@
 -- over histories.
 use Prim.Native.Nat.{ℕ, _+_, _*_, _<_, _≤_}
 use mathlib.Core.Path.{_≡_}
+use mathlib.Core.Bool.{false}
 use mathlib.Core.List.{List, [], _∷_, _++_}
 use lib.ListN.{length, getD}
 use Rattle.kinds.specs.declared.Kind.{Kind}
@@ -12,9 +13,9 @@ use Rattle.table.specs.declared.Named.the-variants.{Known}
 use Rattle.table.specs.Table.{messageOf}
 use Rattle.calls.specs.Calls.{Sent, Call, areaIn}
 use Rattle.refusals.specs.Refusals.{refusalOf}
-use Rattle.link.specs.Answer.{held}
+use Rattle.link.specs.Answer.{held, writes}
 use Rattle.demands.specs.History.{Conduct, Past, AfterAny}
-use Rattle.demands.specs.Reading.{startOf, countOf, Host, Reads, effectiveOf, Counts}
+use Rattle.demands.specs.Reading.{startOf, countOf, Host, Reads, effectiveOf, Tells}
 
 -- a frame of a message ("What the board answers"), by the ID of its row in the table, for which no refusal holds, whatever a board makes of it; what is
 -- lent as the journal is bytes
@@ -29,18 +30,19 @@ pub record Accepted (id : ℕ) (c : Call) : Type 0 where
 abbrev pub HeardAgain : Type 0
 HeardAgain = (id : ℕ) (c : Call) → Accepted id c → Host (c .sent)
 
--- what stands before a run of a kind and behind it is as before ("The areas")
+-- what stands before a run of a kind and behind it is as before
 pub record Outside (k : Kind) (start count : ℕ) (area area′ : List ℕ) : Type 0 where
   pub before-it : (i : ℕ) → i < placeOf k start → getD area′ i 0 ≡ getD area i 0
   pub behind-it : (i : ℕ) → placeOf k start + count * k .unit ≤ i → getD area′ i 0 ≡ getD area i 0
   pub as-long : length area′ ≡ length area
 
--- "Each message": nothing is changed but what it names, neither the rest of its kind's area nor the area of another kind
+-- nothing is changed but what a message names, neither the rest of its kind's area nor the area of another kind, and a query changes nothing
 pub record OnlyNamed (board : Conduct) (m : Message) (c : Call) : Type 0 where
   pub outside :
       Outside (kindOf (held c) (m .tag)) (startOf m (c .sent)) (countOf m (c .sent)) (areaIn (m .tag) (c .areas))
       (areaIn (m .tag) (board .answer c .areas))
   pub others : (tag : ℕ) → (tag ≡ m .tag → ⊥) → areaIn tag (board .answer c .areas) ≡ areaIn tag (c .areas)
+  pub query : writes (m .does) ≡ false → board .answer c .areas ≡ c .areas
 
 -- "slots with a non-zero pattern" among those that a message names, before it
 abbrev pub effectiveNamed : Message → Call → ℕ
@@ -51,17 +53,19 @@ effectiveNamed m c =
 abbrev pub Once : Conduct → Message → Call → ℕ → Type 0
 Once board m c new = effectiveOf (board .answer c .areas) + effectiveNamed m c ≡ effectiveOf (c .areas) + new
 
--- what is read after a history: the count, and all that a standing write named and no later standing write touched
+-- what is read after a history: what is told of all points, and all that a standing write named and no later standing write touched
 pub record Lasts (board : Conduct) (p : Past) : Type 0 where
-  pub counted : Counts board (p .areas)
+  pub tells : Tells board (p .areas)
   pub read :
       (earlier later : List Sent) (s : Sent) (m : Message) → p .standing-writes ≡ earlier ++ (s ∷ later) → messageOf (s .frame) ≡ Known m
       → Reads board (p .areas) m s later
 
 pub record EveryDigitSurvives (board : Conduct) : Type 0 where
+  -- what the table accepts is accepted
+  pub accepted : (id : ℕ) (c : Call) → Accepted id c → board .answer c .number ≡ 0
   -- by the very next call after an accepted one, over any areas
   pub next : (id : ℕ) (c : Call) (a : Accepted id c) → Reads board (board .answer c .areas) (a .message) (c .sent) []
-  pub counted : (id : ℕ) (c : Call) → Accepted id c → Counts board (board .answer c .areas)
+  pub tells : (id : ℕ) (c : Call) → Accepted id c → Tells board (board .answer c .areas)
   -- a 244H's points are new, a 246H's are none
   pub written-once : (c : Call) (a : Accepted 0x244 c) → Once board (a .message) c (countOf (a .message) (c .sent))
   pub cleared-once : (c : Call) (a : Accepted 0x246 c) → Once board (a .message) c 0

@@ -57,7 +57,7 @@ newBytes WritePoints unit count rest = slotsOf count rest
 newBytes ClearRun unit count rest = replicate (count * unit) 0
 newBytes ChangeRun unit count rest = bytesIn rest
 
--- what the reply to each message says after its station ("Each message"; the writes' replies by 4-3-24, 4-3-25 and 4-3-30)
+-- what the reply to each message says after its station ("Each message"; the writes' replies by 4-3-23, 4-3-25 and 4-3-30)
 abbrev pub saidBy : Action → Call → Message → ℕ → ℕ → List ℕ
 saidBy SayBack c m start count = sameText m (rest c m)
 saidBy CountPoints c m start count = countText m (held c .points) (c .areas .points)

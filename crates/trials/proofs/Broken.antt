@@ -1,18 +1,27 @@
 -- The small board's history by computing, and where each broken board fails.
 use Prim.Native.Nat.{ℕ}
-use mathlib.Core.Path.{_≡_, refl, sym, ap, _∙_}
-use mathlib.Core.Bool.{true}
+use mathlib.Core.Path.{_≡_, refl, sym, ap, ap₂, _∙_}
+use mathlib.Core.Bool.{Bool, true, cond, _&&_}
 use mathlib.Core.List.{List, [], _∷_}
 use native.Mathlib.Omega.{arith}
 use lib.ListN.{length, getD}
+use borrow.Author.Tests.{eq-eqb}
 use Rattle.kinds.specs.Kinds.{pointsTag, columnsTag}
-use Rattle.journal.specs.Journal.{encodes, added, lastEntry}
+use Rattle.journal.specs.Journal.{Entry, encodes, added}
 use Rattle.calls.specs.declared.Kept.{Kept}
-use Rattle.calls.specs.Calls.{Areas, Sent}
+use Rattle.calls.specs.Calls.{Areas, Sent, Call}
+use Rattle.refusals.specs.Refusals.{refusalOf}
+use Rattle.link.specs.Answer.{asked}
+use Rattle.table.specs.declared.Named.the-variants.{Known}
+use Rattle.table.specs.Table.{messageOf}
+use Rattle.demands.specs.Refused.{asksWrite}
+use Rattle.demands.specs.Survive.{Accepted}
+use Rattle.demands.proofs.Commands.{writing}
+use Rattle.trials.proofs.Useless.{zero-bytes}
 use Rattle.trials.specs.Cases.{holding}
-use Rattle.demands.specs.History.{Conduct, Event, frame, stepBack, after, acceptedWrite, alone, entries, account, Holds, EveryHistory}
-use Rattle.trials.specs.Broken.{lotCode, pointOne, twoPoints, clearOne, unknown, smallest, small, Worked, entersNew, clears, refusalWrites, forgets, takesNothing, Broken}
-use Rattle.trials.specs.Useless.{storesNothing, storesFirst, usedAll, usedMore}
+use Rattle.demands.specs.History.{Conduct, Event, frame, stepBack, callOn, after, acceptedWrite, alone, entries, entryBy, account, Holds, EveryHistory}
+use Rattle.trials.specs.Broken.{lotCode, pointOne, twoPoints, clearOne, unknown, smallest, small, Worked, entersNew, clears, refusalWrites, forgets, takesNothing, entersAll, NotWhole, Broken}
+use Rattle.trials.specs.Useless.{behindFirst, storesNothing, storesFirst, usedAll, usedMore}
 use Rattle.trials.proofs.Computing.{a-call}
 
 pub worked : Worked
@@ -78,11 +87,20 @@ record Told : Type 0 where
   refusal-writes : (there refusalWrites (frame unknown ∷ []) ≡ 0x30) × (due refusalWrites (frame unknown ∷ []) ≡ 0)
   takes-nothing : (there takesNothing written-back ≡ 0x30) × (due takesNothing written-back ≡ 0)
   second-accepted : acceptedWrite forgets once clearOne ≡ true
+  two-refused : refusalOf (callOn smallest twoPoints) ≡ 0
+  two-asked : asksWrite (asked (callOn smallest twoPoints)) ≡ true
+  two-known : messageOf (twoPoints .frame) ≡ Known writing
+  second-before : getD (behindFirst writing (callOn smallest twoPoints) (smallest .points)) 0 0 ≡ 0
+  both-due : (getD (account (holding 2) smallest (twoPoints ∷ []) .points) 0 0 ≡ 1)
+      × (getD (behindFirst writing (callOn smallest twoPoints) (account (holding 2) smallest (twoPoints ∷ []) .points)) 0 0 ≡ 1)
+  all-entered : acceptedWrite entersAll smallest pointOne ≡ true
+  all-long : (length (encodes (entries (after entersAll smallest (frame pointOne)))) ≡ 85)
+      × (length (encodes (added 380 (entries smallest) (entryBy (holding 2) smallest pointOne))) ≡ 45)
   first-only : (slot-there storesFirst twoPoints 40 ≡ 0) × (slot-due storesFirst twoPoints 40 ≡ 1)
   nothing-stored : (slot-there storesNothing twoPoints 0 ≡ 0) × (slot-due storesNothing twoPoints 0 ≡ 1)
   all-used : (used-there usedAll ≡ 380) × (used-due usedAll ≡ 1720)
   one-more : (used-there usedMore ≡ 46) × (used-due usedMore ≡ 50)
-  entry-lost : (length (entries twice) ≡ 1) × (length (added 380 (entries once) (lastEntry (entries twice))) ≡ 2)
+  entry-lost : (length (entries twice) ≡ 1) × (length (added 380 (entries once) (entryBy (holding 2) once clearOne)) ≡ 2)
 
 told : Told
 unfolding a-call
@@ -93,6 +111,13 @@ told =
       refusal-writes = (refl, refl);
       takes-nothing = (refl, refl);
       second-accepted = refl;
+      two-refused = refl;
+      two-asked = refl;
+      two-known = refl;
+      second-before = refl;
+      both-due = (refl, refl);
+      all-entered = refl;
+      all-long = (refl, refl);
       first-only = (refl, refl);
       nothing-stored = (refl, refl);
       all-used = (refl, refl);
@@ -100,10 +125,49 @@ told =
       entry-lost = (refl, refl);
     }
 
+-- two points written to a fresh board
+abbrev first-call : Call
+first-call = callOn smallest twoPoints
+
+is-two : Accepted 0x244 first-call
+is-two = record { message = writing; named = refl; known = told .two-known; number = told .two-refused; bytes = zero-bytes 380 }
+
+module _ (board : Conduct) (h : EveryHistory board) where
+  -- the write is accepted, since the table accepts it, and stands
+  is-accepted : board .answer first-call .number ≡ 0
+  is-accepted = kept-so board h [] .numbers twoPoints ∙ told .two-refused
+
+  is-write : acceptedWrite board smallest twoPoints ≡ true
+  is-write = ap₂ (λ (x y : Bool). x && y) (eq-eqb _ 0 is-accepted) (told .two-asked)
+
+  -- so the points are what it says
+  points-due : board .answer first-call .areas .points ≡ account (holding 2) smallest (twoPoints ∷ []) .points
+  points-due =
+      kept-so board h (frame twoPoints ∷ []) .whole-writes pointsTag
+      ∙ ap (λ (b : Bool). account (holding 2) smallest (cond b (twoPoints ∷ []) []) .points) is-write
+
+pub not-whole : NotWhole
+unfolding is-two
+not-whole =
+    record {
+      refuses-all = λ board n h. n first-call (is-accepted board h);
+      stores-nothing = λ board n h.
+          let f : _≡_ {A = ℕ} 0 1 = ap (λ (s : List ℕ). getD s 0 0) (sym (n first-call) ∙ points-due board h) ∙ told .both-due .0 in
+          omega (arith, f);
+      stores-first = λ board n h.
+          let e = sym (n first-call is-two) ∙ ap (behindFirst writing first-call) (points-due board h) in
+          let f : _≡_ {A = ℕ} 0 1 = sym (told .second-before) ∙ ap (λ (s : List ℕ). getD s 0 0) e ∙ told .both-due .1 in
+          omega (arith, f);
+    }
+
 pub broken : Broken
 broken =
     record {
       enters-new = fails entersNew written-back 0x30 0 (told .enters-new .0) (told .enters-new .1) (λ q. omega (arith, q));
+      enters-all = λ h.
+          let v = kept-so entersAll h [] in
+          let f : _≡_ {A = ℕ} 85 45 = sym (told .all-long .0) ∙ ap (λ (es : List Entry). length (encodes es)) (v .adds pointOne (told .all-entered)) ∙ told .all-long .1 in
+          omega (arith, f);
       clears-too = fails clears second-back 0 0x30 (told .clears-too .0) (told .clears-too .1) (λ q. omega (arith, q));
       refusal-writes = fails refusalWrites (frame unknown ∷ []) 0x30 0 (told .refusal-writes .0) (told .refusal-writes .1) (λ q. omega (arith, q));
       forgets-entries = λ h.

@@ -156,7 +156,7 @@ tells-true board m i =
     ap (λ (o : Outcome). o .text) (same-outcome board m (asking (outcomeBy board (i .call) .areas) h b (text "208")))
     ∙ subst (λ (a : Areas). answerOf (asking a h b (text "208")) .text ≡ replyOf normal (h .settings .station) (text "208" ++ digitsOf 3 (effectiveOf a)))
     (ap (λ (o : Outcome). o .areas) (sym (same-outcome board m (i .call))))
-    (every-digit-survives .counted (i .id) (i .call) (i .accepted) .text h (i .heard) b)
+    (every-digit-survives .tells (i .id) (i .call) (i .accepted) .counted .text h (i .heard) b)
 
 pub useless : Useless
 useless =
@@ -201,7 +201,7 @@ module _ (board : Conduct) (d : EveryDigitSurvives board) where
   counting-after c = asking (board .answer c .areas) (test .sent) false (text "208")
 
   heard : {id : ℕ} (c : Call) → Accepted id c → board .answer (counting-after c) .number ≡ 0
-  heard {id} c a = d .counted id c a .number (test .sent) is-host false
+  heard {id} c a = d .tells id c a .counted .number (test .sent) is-host false
 
   -- so its reply is not the same
   differs : board .answer (counting-after one-point) .text ≡ board .answer (counting-after no-point) .text → ⊥
@@ -209,8 +209,8 @@ module _ (board : Conduct) (d : EveryDigitSurvives board) where
   differs e =
       let s : (n : ℕ) → List ℕ = λ n. replyOf normal 0x99 (text "208" ++ digitsOf 3 n) in
       let f =
-      ap s (sym one-counted) ∙ sym (d .counted 0x244 one-point is-one .text (test .sent) is-host false) ∙ e
-      ∙ d .counted 0x246 no-point is-none .text (test .sent) is-host false
+      ap s (sym one-counted) ∙ sym (d .tells 0x244 one-point is-one .counted .text (test .sent) is-host false) ∙ e
+      ∙ d .tells 0x246 no-point is-none .counted .text (test .sent) is-host false
       ∙ ap s none-counted in
       let g : _≡_ {A = ℕ} 0x31 0x30 = ap (λ (t : List ℕ). getD t 8 0) f in
       omega (arith, g)
@@ -234,7 +234,7 @@ pub shut-out : ShutOut
 unfolding runOf worthOf
 shut-out =
     record {
-      refuses-all = λ board n d. n (counting-after board d one-point) (heard board d one-point is-one);
+      refuses-all = λ board n d. n one-point (d .accepted 0x244 one-point is-one);
       same-reply = λ board same d.
           differs board d (same (counting-after board d one-point) (counting-after board d no-point) (heard board d one-point is-one) (heard board d no-point is-none));
       stores-nothing = λ board n d.
@@ -245,7 +245,7 @@ shut-out =
       stores-first = λ board n d.
           let e : getD (take 40 (drop 40 (left board d))) 0 0 ≡ 0 = ap (λ (s : List ℕ). getD s 0 0) (n two-points is-two) ∙ told .second-before in
           second-there board d (sym (getD-take 40 (drop 40 (left board d)) 0 0 (omega arith)) ∙ e);
-      invents-count = λ board i d. i .other (d .counted (i .id) (i .call) (i .accepted) .text (i .host) (i .heard) (i .checked));
+      invents-count = λ board i d. i .other (d .tells (i .id) (i .call) (i .accepted) .counted .text (i .host) (i .heard) (i .checked));
     }
 
 -- the points that a 244H leaves where its first slot alone is stored: what it names behind that stays

@@ -2,24 +2,23 @@
 use Prim.Native.Nat.{ℕ}
 use Prim.Native.String.{String}
 use mathlib.Core.Path.{_≡_}
-use mathlib.Core.Bool.{cond}
+use mathlib.Core.Bool.{cond, _&&_}
 use mathlib.Core.List.{List, [], _∷_}
 use lib.Dec.{eqb}
 use lib.ListN.{length, take, getD, replicate}
 use Rattle.digits.specs.Text.{text}
-use Rattle.kinds.specs.Kinds.{columnsTag, heldIn}
-use Rattle.journal.specs.Journal.{entryFor}
-use Rattle.axes.specs.Records.{zeroRecord, eightAxes}
-use Rattle.calls.specs.Calls.{Areas, Sent, fresh, lengthsOf, putIn, withEntries}
-use Rattle.link.specs.Answer.{unanswered, answerOf, backOf}
-use Rattle.trials.specs.Cases.{holding}
-use Rattle.trials.specs.Useless.{storesNothing, storesFirst, usedAll, usedMore}
+use Rattle.kinds.specs.Kinds.{pointsTag, columnsTag, heldIn}
+use Rattle.journal.specs.Journal.{added, entryFor}
+use Rattle.calls.specs.Calls.{Areas, Sent, fresh, lengthsOf, putIn, oldEntry, withEntries}
+use Rattle.link.specs.Answer.{asked, unanswered, answerOf, backOf}
+use Rattle.demands.specs.Refused.{asksWrite}
+use Rattle.trials.specs.Cases.{holding, sending}
+use Rattle.trials.specs.Useless.{RefusesAll, StoresNothing, StoresFirst, storesNothing, storesFirst, usedAll, usedMore}
 use Rattle.demands.specs.History.{Conduct, ours, Event, frame, stepBack, callOn, Past, past, entries, account, EveryHistory}
 
--- a frame to station 99H, all eight axes fitted
+-- a frame to the bench's station, as it is printed
 abbrev pub send : String → Sent
-send s =
-    record { frame = text s; axes = eightAxes (replicate 8 zeroRecord); settings = record { station = 0x99; fitted = 0xFF }; reply = replicate 1024 0 }
+send s = sending (text s)
 
 -- the lot code 0047 from column 300 on; point 1; point 1 cleared; the count; an unknown message; points 1 and 2
 abbrev pub lotCode : Sent
@@ -95,15 +94,39 @@ forgets = record { answer = λ c. answerOf (callOn (withEntries [] (c .areas)) (
 abbrev pub takesNothing : Conduct
 takesNothing = record { answer = answerOf; back = λ a. unanswered (backOf a .number) a }
 
+-- "demand 3 counts whole writes", whatever else a board does
+pub record NotWhole : Type 0 where
+  pub refuses-all : (board : Conduct) → RefusesAll (board .answer) → EveryHistory board → ⊥
+  pub stores-nothing : (board : Conduct) → StoresNothing (board .answer) → EveryHistory board → ⊥
+  pub stores-first : (board : Conduct) → StoresFirst (board .answer) → EveryHistory board → ⊥
+
+-- an entry of all points where one is written: the journal then holds fewer writes than it should
+abbrev pub entersAll : Conduct
+entersAll =
+    record {
+      answer = λ c.
+          cond (eqb (answerOf c .number) 0 && asksWrite (asked c))
+          (record {
+            number = 0;
+            text = answerOf c .text;
+            areas =
+                withEntries (added (length (c .areas .journal)) (entries (c .areas)) (oldEntry (heldIn (lengthsOf (c .areas))) pointsTag 1 2 (c .areas)))
+                (answerOf c .areas);
+          })
+          (answerOf c);
+      back = backOf;
+    }
+
 pub record Broken : Type 0 where
   pub enters-new : EveryHistory entersNew → ⊥
+  pub enters-all : EveryHistory entersAll → ⊥
   pub clears-too : EveryHistory clears → ⊥
   pub refusal-writes : EveryHistory refusalWrites → ⊥
   pub forgets-entries : EveryHistory forgets → ⊥
   pub takes-nothing : EveryHistory takesNothing → ⊥
-  -- "demand 3 counts whole writes": boards that journal and step back as they should
+  -- boards that journal and step back as they should, and don't do writes whole
   pub stores-first : EveryHistory storesFirst → ⊥
   pub stores-nothing : EveryHistory storesNothing → ⊥
-  -- "the used length (the journal rule)"
+  -- a used length that is not that of the entries
   pub used-all : EveryHistory usedAll → ⊥
   pub used-more : EveryHistory usedMore → ⊥

@@ -22,7 +22,7 @@ use Rattle.table.specs.declared.Message.{Message}
 use Rattle.messages.specs.declared.Asked.the-variants.{Refused, Order}
 use Rattle.table.specs.Table.{row}
 use Rattle.messages.specs.Asked.{askedOf}
-use Rattle.calls.specs.Calls.{Areas, Call, callOf, fresh, lengthsOf, putIn}
+use Rattle.calls.specs.Calls.{Areas, Sent, Call, fresh, lengthsOf, putIn}
 use Rattle.link.specs.Answer.{answerOf}
 
 -- what a board of so many points holds
@@ -33,9 +33,13 @@ holding n = record { points = n }
 abbrev pub blank : Areas
 blank = fresh (holding 500) 32768
 
+-- a frame to it with all that comes beside one, and the call that this makes
+abbrev pub sending : List ℕ → Sent
+sending frame =
+    record { frame = frame; axes = eightAxes (replicate 8 zeroRecord); settings = record { station = 0x99; fitted = 0xFF }; reply = replicate 1024 0 }
+
 abbrev pub bench : Areas → List ℕ → Call
-bench areas frame =
-    callOf frame (eightAxes (replicate 8 zeroRecord)) (record { station = 0x99; fitted = 0xFF }) (replicate 1024 0) areas
+bench areas frame = record { sent = sending frame; areas = areas }
 
 -- the same, with columns from a number on "holding" these bytes
 abbrev pub columnsHolding : ℕ → List ℕ → Areas
@@ -90,7 +94,7 @@ pub record ProvedCases : Type 0 where
         speed = speed 100;
         positions = position (pos 50000) ∷ position (negsuc 0) ∷ replicate 6 (position (pos 0));
       }
-  -- (7) "`!992100012C0490` with columns 300 to 303 holding 30 30 34 37 replies `#992100012C043030343729`"
+  -- (7) "`!992100012C0490` with columns 300 to 303 holding 30 30 34 37 (hexadecimal) replies `#992100012C043030343729`"
   pub case7 : answerOf (bench (columnsHolding 300 (0x30 ∷ 0x30 ∷ 0x34 ∷ 0x37 ∷ [])) (text "!992100012C0490\r\n")) .text ≡ text "#992100012C043030343729\r\n"
   -- (8) "start 3E7 count 01 is column 999, count 02 is 106"
   pub case8 : (answerOf (bench (columnsHolding 999 (0x41 ∷ [])) (text "!99210003E701@@\r\n")) .text ≡ text "#99210003E70141FD\r\n")

@@ -1,4 +1,5 @@
--- Demand 2 worked through by computing: calls and a history that meet its premises, and what is read after them.
+-- Demand 2 worked through: calls and histories that meet its premises, by computing, and what is read after them, by computing too but for the 45
+-- points, where it is what demand 2 says.
 use Prim.Native.Nat.{ℕ}
 use mathlib.Core.Path.{_≡_}
 use mathlib.Core.Bool.{true, false}
@@ -6,25 +7,25 @@ use mathlib.Core.List.{List, [], _∷_, _++_}
 use lib.ListN.{take, replicate}
 use Rattle.digits.specs.Text.{text}
 use Rattle.frames.specs.Frame.{normal, replyOf}
-use Rattle.kinds.specs.Kinds.{columnsTag}
+use Rattle.kinds.specs.Kinds.{pointsTag, columnsTag}
 use Rattle.listing.specs.Listing.{joined}
 use Rattle.calls.specs.Calls.{Areas, Sent, Call}
 use Rattle.link.specs.Answer.{answerOf}
 use Rattle.trials.specs.Cases.{bench, blank}
-use Rattle.demands.specs.History.{ours, Event, frame, stepBack}
+use Rattle.demands.specs.History.{ours, Event, frame, stepBack, callOn}
 use Rattle.demands.specs.Reading.{Host, untouched}
 use Rattle.demands.specs.Survive.{Accepted}
-use Rattle.trials.specs.Broken.{send, lotCode, pointOne, count, small}
+use Rattle.trials.specs.Broken.{send, lotCode, pointOne, clearOne, count, small}
 
 -- each to a fresh bench: a 24EH of the lot code 0047, the bench listing's 244H of point 1, a 246H of point 1, a 244H of 45 one-axis points
 abbrev pub codeCall : Call
-codeCall = bench blank (text "!9924E0012C0430303437@@\r\n")
+codeCall = callOn blank lotCode
 
 abbrev pub pointCall : Call
 pointCall = bench blank (text "!9924400100103001E001E00640000C350FFFFFFFFF3\r\n")
 
 abbrev pub clearCall : Call
-clearCall = bench blank (text "!99246001001@@\r\n")
+clearCall = callOn blank clearOne
 
 abbrev pub manyCall : Call
 manyCall = bench blank (text "!9924400102D" ++ (joined (replicate 44 (text "0100000000000000000001")) ++ text "010000000000000000002D@@\r\n"))
@@ -60,6 +61,12 @@ pub record Examples : Type 0 where
   pub stands : small ours events .standing-writes ≡ [] ++ (lotCode ∷ pointOne ∷ [])
   pub not-touched : untouched columnsTag 300 4 (pointOne ∷ []) ≡ true
   pub still-read : replied (small ours events .areas) (text "!992100012C0490\r\n") ≡ text "#992100012C043030343729\r\n"
+  -- and point 1, written before the lot code
+  pub point-stands : small ours (frame pointOne ∷ frame lotCode ∷ []) .standing-writes ≡ [] ++ (pointOne ∷ lotCode ∷ [])
+  pub point-not-touched : untouched pointsTag 1 1 (lotCode ∷ []) ≡ true
+  pub point-read :
+      replied (small ours (frame pointOne ∷ frame lotCode ∷ []) .areas) (text "!99209001001@@\r\n")
+      ≡ replyOf normal 0x99 (text "2090010010100000000000000000001")
   -- with column 302 changed behind it, and standing, the first two columns still are its own
   pub touched : untouched columnsTag 300 4 (oneColumn ∷ []) ≡ false
   pub first-two : untouched columnsTag 300 2 (oneColumn ∷ []) ≡ true

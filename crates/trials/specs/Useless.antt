@@ -1,5 +1,5 @@
 -- Document 01, "What the promises say": "Try these useless boards against it". Each is named by what is wrong with it, whatever else it does, and is
--- ruled out by the contract of `answer` and, where document 01 says so, by demand 2.
+-- ruled out by the contract of `answer` and, where document 01 says so, by demand 2; demand 3 is tried in Broken.antt.
 use Prim.Native.Nat.{ℕ, suc, _+_, _-_}
 use mathlib.Core.Path.{_≡_}
 use mathlib.Core.Bool.{Bool, true, cond, _&&_}

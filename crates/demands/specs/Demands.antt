@@ -1,0 +1,32 @@
+-- The customer's three demands, of our board: all that is promised here, in one look.
+use Rattle.demands.specs.Refused.{OneNumber, NoOtherNumber, ChangesNothing, OneReply, ErrorsAgree, QueryChangesNothing}
+use Rattle.demands.specs.Replied.{EveryReply, NormalReply, ReplyFits, TestCallBack}
+use Rattle.demands.specs.History.{ours, EveryHistory}
+use Rattle.demands.specs.Survive.{HeardAgain, EveryDigitSurvives}
+
+-- "A frame that is refused changes no point, no column and nothing in the journal, and a refusal has one number and one fixed reply, or none."
+pub record Demand1 : Type 0 where
+  pub one-number : OneNumber
+  pub no-other-number : NoOtherNumber
+  pub changes-nothing : ChangesNothing
+  pub one-reply : OneReply
+  pub errors-agree : ErrorsAgree
+  pub query-changes-nothing : QueryChangesNothing
+
+-- "the reply, byte for byte", beside the contracts, "and the store's numbers and codes survive writing and reading back with every digit"
+pub record Demand2 : Type 0 where
+  pub every-reply : EveryReply
+  pub normal-reply : NormalReply
+  pub reply-fits : ReplyFits
+  pub test-call-back : TestCallBack
+  pub every-digit-survives : EveryDigitSurvives ours
+  pub heard-again : HeardAgain
+
+-- "After any sequence of frames and steps back, points and columns are exactly what the accepted writes not taken back would leave"
+abbrev pub Demand3 : Type 0
+Demand3 = EveryHistory ours
+
+pub record Demands : Type 0 where
+  pub demand1 : Demand1
+  pub demand2 : Demand2
+  pub demand3 : Demand3
