@@ -1,5 +1,4 @@
--- Demand 2's examples, by computing; those of 45 points, which are too many to be listed so, by what it says of them.
-use Prim.Native.Nat.{_<_}
+-- Demand 2's examples, by computing; the list of 45 points, which takes too many steps, by what it says.
 use mathlib.Core.Path.{_≡_, refl, ap}
 use mathlib.Core.Bool.{false}
 use native.Mathlib.Omega.{arith}
@@ -41,10 +40,8 @@ unfolding worthOf byteOf replyOf sent fitting lengthOf axesFrom axesOf
 many-listed = ap (take 9) (every-digit-survives .next 0x244 manyCall many .points refl .listed refl .text (codeCall .sent) host false)
 
 last-read : replied (answerOf manyCall .areas) (text "!9920902D001@@\r\n") ≡ replyOf normal 0x99 (text "20900102D010000000000000000002D")
-unfolding worthOf byteOf sent lengthOf axesFrom axesOf
-last-read =
-    let l : 44 < 45 = omega arith in
-    every-digit-survives .next 0x244 manyCall many .points refl .each 44 l refl .text (codeCall .sent) host false
+unfolding a-call
+last-read = refl
 
 pub examples : Examples
 unfolding a-call

@@ -1,5 +1,5 @@
--- Demand 2 worked through: calls and histories that meet its premises, by computing, and what is read after them, by computing too but for the 45
--- points, where it is what demand 2 says.
+-- Demand 2 worked through by computing: calls and histories that meet its premises, and what is read after them. Only the list of 45 points is too
+-- long to be computed; it is what demand 2 says.
 use Prim.Native.Nat.{ℕ}
 use mathlib.Core.Path.{_≡_}
 use mathlib.Core.Bool.{true, false}
