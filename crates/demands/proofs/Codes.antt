@@ -13,7 +13,7 @@ use Rattle.digits.proofs.Inverse.{inverse}
 use Rattle.digits.proofs.Bools.{was-not}
 use Rattle.kinds.specs.declared.Kind.{Kind}
 use Rattle.kinds.specs.declared.Held.{Held}
-use Rattle.kinds.specs.Kinds.{columnsTag, columnsOf, kindOf, holds, runOf}
+use Rattle.kinds.specs.Kinds.{columnsTag, columnsOf, kindOf, heldIn, holds, runOf}
 use Rattle.kinds.proofs.Known.{kind-columns, within, run-length}
 use Rattle.pairs.specs.Pairs.{bytesIn, digitsIn}
 use Rattle.pairs.proofs.Paired.{length-digitsIn}
@@ -24,12 +24,12 @@ use Rattle.table.specs.declared.Action.the-variants.{ReadRun, ChangeRun}
 use Rattle.table.specs.declared.Message.{Message}
 use Rattle.table.specs.Table.{row, fieldsOf, startIn, countIn}
 use Rattle.queries.specs.Replies.{headOf, runText}
-use Rattle.calls.specs.Calls.{Areas, Sent, callOf, areaIn}
+use Rattle.calls.specs.Calls.{Areas, Sent, callOf, lengthsOf, areaIn}
 use Rattle.link.specs.Answer.{saidBy}
 use Rattle.demands.specs.History.{ours}
 use Rattle.demands.specs.Reading.{content, startOf, countOf, restOf, untouched, Says, asksColumns, digitsFrom, ColumnsSaid, CodesRead}
 use Rattle.demands.proofs.Commands.{reading, changing, named}
-use Rattle.demands.proofs.Asking.{says, same-start, same-count, query-right, start-said, count-said, asks-right}
+use Rattle.demands.proofs.Asking.{Open, says, same-start, same-count, query-right, start-said, count-said, asks-right}
 use Rattle.demands.proofs.Parts.{digits-part}
 use Rattle.demands.proofs.Runs.{run-in}
 use Rattle.demands.proofs.Kept.{Standing, right-here}
@@ -106,6 +106,23 @@ module _ (id id′ program start count tag : ℕ) (repeats : Bool) where
         (fields-back program start count c (o .assured .digits refl) (o .assured .fields) (eqb-true _ _ (was-not (o .right .program))))
         ∙ ap (λ (y : List ℕ). digitsOf 3 id′ ++ y) (take-append-drop (fieldsOf change) c)
 
+-- a 210H of any columns that are held says two digits for each
+pub reads-any : (a : Areas) → Open a → (start count : ℕ) → 1 ≤ count → count ≤ 255 → holds columnsOf start count ≡ true
+    → Says ours a (asksColumns start count) (asksColumns start count ++ digitsIn (runOf columnsOf start count (a .columns)))
+unfolding byteOf
+reads-any a o start count some few all =
+    let h : Held = heldIn (lengthsOf a) in
+    let w = within columnsOf start count all in
+    let n = start-said 0x210 2 3 2 columnsTag ReadRun true start count (omega (arith, w .1)) (omega arith) in
+    let m = count-said 0x210 2 3 2 columnsTag ReadRun true start count (omega (arith, w .1)) (omega arith) in
+    says a (asksColumns start count) (asksColumns start count ++ digitsIn (runOf columnsOf start count (a .columns))) reading o (omega arith)
+    (simp length-append (omega (arith, inverse 3 .as-many start, inverse 2 .as-many count)))
+    (named .2)
+    (asks-right 0x210 2 3 2 columnsTag ReadRun true start count (omega (arith, w .1)) (omega arith) h some (rw (kind-columns h) all))
+    (λ x frame.
+    ap₂ (λ (p q : ℕ). headOf reading p q ++ digitsIn (runOf (kindOf h columnsTag) p q (a .columns))) n m
+    ∙ ap (λ (y : Kind). headOf reading start count ++ digitsIn (runOf y start count (a .columns))) (kind-columns h))
+
 module _ {h : Held} {a : Areas} {s : Sent} {later : List Sent} (t : Standing h a changing s later) where
   whole : untouched columnsTag (startOf changing s) (countOf changing s) later ≡ true → Says ours a (text "210" ++ take 7 (content s)) (text "210" ++ content s)
   unfolding byteOf
@@ -118,21 +135,6 @@ module _ {h : Held} {a : Areas} {s : Sent} {later : List Sent} (t : Standing h a
   module _ (start count : ℕ) (some : 1 ≤ count) (few : count ≤ 255) (all : holds columnsOf start count ≡ true) where
     abbrev here : List ℕ
     here = runOf columnsOf start count (a .columns)
-
-    says-here : Says ours a (asksColumns start count) (asksColumns start count ++ digitsIn here)
-    unfolding byteOf
-    says-here =
-        let w = within columnsOf start count all in
-        let n = start-said 0x210 2 3 2 columnsTag ReadRun true start count (omega (arith, w .1)) (omega arith) in
-        let m = count-said 0x210 2 3 2 columnsTag ReadRun true start count (omega (arith, w .1)) (omega arith) in
-        says a (asksColumns start count) (asksColumns start count ++ digitsIn here) reading (t .is-open) (omega arith)
-        (simp length-append (omega (arith, inverse 3 .as-many start, inverse 2 .as-many count)))
-        (named .2)
-        (right-here t (asks-right 0x210 2 3 2 columnsTag ReadRun true start count (omega (arith, w .1)) (omega arith) h some (rw (kind-columns h) all)))
-        (λ x frame.
-        said-run 0x24E 0x210 2 3 2 columnsTag _ t (startIn reading (drop 3 (asksColumns start count))) (countIn reading (drop 3 (asksColumns start count))) x frame
-        ∙ ap₂ (λ (p q : ℕ). headOf reading p q ++ digitsIn (runOf (kindOf h columnsTag) p q (a .columns))) n m
-        ∙ ap (λ (y : Kind). headOf reading start count ++ digitsIn (runOf y start count (a .columns))) (kind-columns h))
 
     in-place : (number many : ℕ) → startOf changing s ≤ number → number + many ≤ startOf changing s + countOf changing s → start ≤ number → number + many ≤ start + count
         → untouched columnsTag number many later ≡ true → digitsFrom start number many (digitsIn here) ≡ digitsFrom (startOf changing s) number many (restOf changing s)
@@ -149,7 +151,7 @@ module _ {h : Held} {a : Areas} {s : Sent} {later : List Sent} (t : Standing h a
     said-here =
         record {
           digits = digitsIn here;
-          says = says-here;
+          says = reads-any a (t .is-open) start count some few all;
           as-many = length-digitsIn here ∙ ap (λ (x : ℕ). 2 * x) (run-length columnsOf start count all (a .columns) (eqb-true _ _ (t .is-open .columns)) ∙ omega arith);
           in-place = in-place;
         }

@@ -31,6 +31,7 @@ use Rattle.demands.specs.History.{ours}
 use Rattle.demands.specs.Reading.{content, startOf, countOf, restOf, untouched, Says, sentBy, fitting, lists, listRoom, asksPoints, PointsRead, PointsGone, effectiveOf, slotsFrom, Tells}
 use Rattle.demands.proofs.Commands.{counting, listing, writing, clearing, named}
 use Rattle.demands.proofs.Asking.{Open, says, same-start, same-count, query-right, start-said, count-said, asks-right}
+use Rattle.demands.proofs.Codes.{reads-any}
 use Rattle.demands.proofs.Kept.{Standing, right-here}
 use Rattle.demands.proofs.Slots.{listed-sent, listed-one-sent, listed-zero, zero-part}
 
@@ -41,7 +42,7 @@ unfolding byteOf
 list-said a s ls o r h e =
     says a (text "209" ++ s) (lists ls) listing o (omega arith) (omega arith) (named .1) r (λ x frame. ap lists e)
 
--- what is told of all points
+-- what is told of all that is held
 module _ (a : Areas) (o : Open a) where
   abbrev h : Held
   h = heldIn (lengthsOf a)
@@ -68,7 +69,7 @@ module _ (a : Areas) (o : Open a) where
       (ap₂ (λ (x y : ℕ). listed listRoom x y (slotsFrom y a)) c n)
 
   pub tells : Tells ours a
-  tells = record { counted = counted; listed = lists-any }
+  tells = record { counted = counted; listed = lists-any; read = reads-any a o }
 
 -- a message that writes slots, with what it wrote
 module _ (id : ℕ) (follows : Follows) (does : Action) (repeats : Bool) where

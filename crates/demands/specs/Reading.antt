@@ -8,7 +8,8 @@ use lib.ListN.{length, take, drop, getD}
 use Rattle.digits.specs.Digits.{digitsOf}
 use Rattle.digits.specs.Text.{text}
 use Rattle.frames.specs.Frame.{command, normal, CR, LF, contentIn, scOf, replyOf}
-use Rattle.kinds.specs.Kinds.{pointsTag, columnsTag, pointsOf, columnsOf, heldIn, holds, placeOf}
+use Rattle.kinds.specs.Kinds.{pointsTag, columnsTag, pointsOf, columnsOf, heldIn, holds, placeOf, runOf}
+use Rattle.pairs.specs.Pairs.{digitsIn}
 use Rattle.points.specs.Point.{lengthOf, effectiveIn}
 use Rattle.table.specs.declared.Message.{Message}
 use Rattle.table.specs.declared.Named.{Named}
@@ -144,9 +145,13 @@ effectiveOf a = effectiveIn (heldIn (lengthsOf a) .points) (a .points)
 abbrev pub slotsFrom : ℕ → Areas → List ℕ
 slotsFrom number a = drop (placeOf (pointsOf (heldIn (lengthsOf a))) number) (a .points)
 
--- what is told of all points, whoever wrote them: 208H counts the effective ones, 209H of any that are held lists these, "as many leading ones as" fit
+-- what is told of all that is held, whoever wrote it ("Each message"): 208H counts the effective points, 209H of any points lists those among them, as
+-- many leading ones as fit, 210H of any columns says two digits for each
 pub record Tells (board : Conduct) (a : Areas) : Type 0 where
   pub counted : Says board a (text "208") (text "208" ++ digitsOf 3 (effectiveOf a))
   pub listed :
       (start count : ℕ) → 1 ≤ count → holds (pointsOf (heldIn (lengthsOf a))) start count ≡ true
       → Says board a (asksPoints start count) (lists (listedIn listRoom count start (slotsFrom start a)))
+  pub read :
+      (start count : ℕ) → 1 ≤ count → count ≤ 255 → holds columnsOf start count ≡ true
+      → Says board a (asksColumns start count) (asksColumns start count ++ digitsIn (runOf columnsOf start count (a .columns)))

@@ -53,7 +53,7 @@ effectiveNamed m c =
 abbrev pub Once : Conduct → Message → Call → ℕ → Type 0
 Once board m c new = effectiveOf (board .answer c .areas) + effectiveNamed m c ≡ effectiveOf (c .areas) + new
 
--- what is read after a history: what is told of all points, and all that a standing write named and no later standing write touched
+-- what is read after a history: what is told of all that is held, and all that a standing write named and no later standing write touched
 pub record Lasts (board : Conduct) (p : Past) : Type 0 where
   pub tells : Tells board (p .areas)
   pub read :
