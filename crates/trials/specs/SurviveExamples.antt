@@ -53,6 +53,10 @@ pub record Examples : Type 0 where
   pub code-within : replied (answerOf codeCall .areas) (text "!992100012C06@@\r\n") ≡ replyOf normal 0x99 (text "2100012C06303034370000")
   -- a 209H of point 1
   pub point-back : replied (answerOf pointCall .areas) (text "!99209001001@@\r\n") ≡ replyOf normal 0x99 (text "20900100103001E001E00640000C350FFFFFFFF")
+  -- of points 1 to 16, and of columns 310 and 311, which nobody wrote
+  pub range-listed :
+      replied (answerOf pointCall .areas) (text "!99209001010@@\r\n") ≡ replyOf normal 0x99 (text "20900100103001E001E00640000C350FFFFFFFF")
+  pub others-read : replied (answerOf pointCall .areas) (text "!992100013602@@\r\n") ≡ replyOf normal 0x99 (text "21000136020000")
   pub clear-back : replied (answerOf clearCall .areas) (text "!99209001001@@\r\n") ≡ replyOf normal 0x99 (text "209000")
   -- of the 45 points a 209H lists 40, and the last one is read alone
   pub many-listed : take 9 (replied (answerOf manyCall .areas) (text "!9920900102D@@\r\n")) ≡ text "#99209028"
