@@ -1,4 +1,4 @@
--- The customer's three demands, of our board: all that is promised here, in one look.
+-- The customer's three demands, as they are stated of our board, in one look. Beside them stand the contracts (Sole.antt: each determines its result).
 use Rattle.demands.specs.Refused.{OneNumber, NoOtherNumber, ChangesNothing, OneReply, ErrorsAgree, QueryChangesNothing}
 use Rattle.demands.specs.Replied.{EveryReply, NormalReply, ReplyFits, TestCallBack}
 use Rattle.demands.specs.History.{ours, EveryHistory}

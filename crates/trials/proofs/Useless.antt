@@ -1,13 +1,13 @@
 -- Each useless board is ruled out by what a call or two compute to; and there are such boards.
 use Prim.Native.Nat.{ℕ, zero, suc, _+_, _-_, _/_, _<_, _≤_}
 use mathlib.Core.Path.{_≡_, refl, sym, ap, ap₂, _∙_, subst}
-use mathlib.Core.Bool.{true, false, cond}
+use mathlib.Core.Bool.{Bool, true, false, cond}
 use mathlib.Core.List.{List, _++_}
 use native.Mathlib.Omega.{arith}
 use lib.Dec.{eqb}
 use lib.ListN.{length, take, drop, getD, replicate}
 use lib.Seq.{getD-take}
-use borrow.Author.Tests.{eq-eqb, le-leb}
+use borrow.Author.Tests.{eq-eqb, eqb-false, le-leb}
 use Rattle.digits.specs.Digits.{worthOf, byteOf, digitsOf}
 use Rattle.digits.specs.Text.{text}
 use Rattle.digits.proofs.Laid.{take-laid}
@@ -30,7 +30,7 @@ use Rattle.trials.specs.Cases.{holding, bench}
 use Rattle.demands.specs.History.{Conduct}
 use Rattle.demands.specs.Reading.{startOf, countOf, Host, asking, effectiveOf}
 use Rattle.demands.specs.Survive.{Accepted, effectiveNamed, EveryDigitSurvives}
-use Rattle.trials.specs.Useless.{behindFirst, StoresFirst, InventsCount, usedAfter, Board, Meets, outcomeBy, Useless, ShutOut, firstOnly, storesFirst, fiveAlways, oneMore, Made}
+use Rattle.trials.specs.Useless.{behindFirst, StoresFirst, InventsCount, usedAfter, Board, Meets, outcomeBy, given, Useless, ShutOut, saying, firstOnly, parrot, storesFirst, fiveAlways, oneMore, usedAll, usedMore, Made}
 use Rattle.trials.proofs.Computing.{a-call}
 use Rattle.demands.proofs.Commands.{writing, clearing, row-of, rows, named}
 use Rattle.demands.proofs.Asking.{Took, took}
@@ -83,7 +83,8 @@ record Told : Type 0 where
   none-counted : effectiveNamed clearing no-point ≡ 0
   one-said : replyOf normal 0x99 (text "208" ++ digitsOf 3 (effectiveOf (answerOf one-point .areas))) ≡ text "#99208001C0\r\n"
   used-all : usedAfter writing two-points ≡ 85
-  used-more : answerOf two-points .areas .kept .used ≡ 85
+  all-told : usedAll .answer two-points .areas .kept .used ≡ 380
+  more-told : usedMore .answer two-points .areas .kept .used ≡ 86
 
 told : Told
 unfolding a-call
@@ -107,7 +108,8 @@ told =
       none-counted = refl;
       one-said = refl;
       used-all = refl;
-      used-more = refl;
+      all-told = refl;
+      more-told = refl;
     }
 
 -- each write is accepted
@@ -318,11 +320,23 @@ invents answer said same e n =
       other = λ f. n (sym e ∙ f ∙ ap (λ (a : Areas). replyOf normal 0x99 (text "208" ++ digitsOf 3 (effectiveOf a))) same ∙ told .one-said);
     }
 
+-- what is accepted is answered by one reply
+said-same : (c : Call) → parrot .answer c .number ≡ 0 → parrot .answer c .text ≡ text "#9920000123456782B\r\n"
+said-same c e = go (eqb (answerOf c .number) 0) refl e
+  where
+    go : (b : Bool) → eqb (answerOf c .number) 0 ≡ b → cond b (saying (text "#9920000123456782B\r\n") (answerOf c)) (answerOf c) .number ≡ 0
+        → cond b (saying (text "#9920000123456782B\r\n") (answerOf c)) (answerOf c) .text ≡ text "#9920000123456782B\r\n"
+    go true q e = refl
+    go false q e = absurd (eqb-false _ _ q e)
+
 pub made : Made
 made =
     record {
       refuses-all = λ c e. let f : _≡_ {A = ℕ} 8 0 = e in omega (arith, f);
-      same-reply = λ c d p q. refl;
+      given-so = λ answer c.
+          let t : outcomeBy (given answer) c .text ≡ answer c .text = take-laid (c .sent .reply) (answer c .text) _ refl in
+          λ i. record { number = answer c .number; text = t i; areas = answer c .areas };
+      same-reply = λ c d p q. said-same c p ∙ sym (said-same d q);
       stores-nothing = λ c. refl;
       stores-first = stays;
       five-always = invents (fiveAlways .answer) _ five-left five-told (λ e. let f : _≡_ {A = ℕ} 0x35 0x31 = ap (λ (s : List ℕ). getD s 8 0) e in omega (arith, f));
@@ -333,7 +347,7 @@ made =
             call = two-points;
             accepted = is-two;
             is-write = refl;
-            other = λ e. let f : _≡_ {A = ℕ} 380 85 = e ∙ told .used-all in omega (arith, f);
+            other = λ e. let f : _≡_ {A = ℕ} 380 85 = sym (told .all-told) ∙ e ∙ told .used-all in omega (arith, f);
           };
       used-more =
           record {
@@ -341,6 +355,6 @@ made =
             call = two-points;
             accepted = is-two;
             is-write = refl;
-            other = λ e. let f : _≡_ {A = ℕ} 86 85 = sym (ap (λ (n : ℕ). n + 1) (told .used-more)) ∙ e ∙ told .used-all in omega (arith, f);
+            other = λ e. let f : _≡_ {A = ℕ} 86 85 = sym (told .more-told) ∙ e ∙ told .used-all in omega (arith, f);
           };
     }

@@ -9,11 +9,12 @@ use lib.ListN.{length, take, getD, replicate}
 use Rattle.digits.specs.Text.{text}
 use Rattle.kinds.specs.Kinds.{pointsTag, columnsTag, heldIn}
 use Rattle.journal.specs.Journal.{added, entryFor}
-use Rattle.calls.specs.Calls.{Areas, Sent, fresh, lengthsOf, putIn, oldEntry, withEntries}
-use Rattle.link.specs.Answer.{asked, unanswered, answerOf, backOf}
-use Rattle.demands.specs.Refused.{asksWrite}
+use Rattle.calls.specs.Calls.{Areas, Sent, Call, Outcome, fresh, lengthsOf, putIn, oldEntry, withEntries}
+use Rattle.messages.specs.declared.Asked.{Asked}
+use Rattle.messages.specs.declared.Asked.the-variants.{Refused, Order}
+use Rattle.link.specs.Answer.{held, asked, writes, unanswered, answerOf, backOf}
 use Rattle.trials.specs.Cases.{holding, sending}
-use Rattle.trials.specs.Useless.{RefusesAll, StoresNothing, StoresFirst, storesNothing, storesFirst, usedAll, usedMore}
+use Rattle.trials.specs.Useless.{RefusesAll, StoresNothing, StoresFirst, honestBut, storesNothing, storesFirst, usedAll, usedMore}
 use Rattle.demands.specs.History.{Conduct, ours, Event, frame, stepBack, callOn, Past, past, entries, account, EveryHistory}
 
 -- a frame to the bench's station, as it is printed
@@ -100,22 +101,21 @@ pub record NotWhole : Type 0 where
   pub stores-nothing : (board : Conduct) → StoresNothing (board .answer) → EveryHistory board → ⊥
   pub stores-first : (board : Conduct) → StoresFirst (board .answer) → EveryHistory board → ⊥
 
--- an entry of all points where one is written: the journal then holds fewer writes than it should
+-- a write of points that enters all points: the journal then holds fewer writes than it should
+abbrev pub moreEntered : Call → Asked → Outcome → Outcome
+moreEntered c (Refused number) o = o
+moreEntered c (Order m start count) o =
+    cond (eqb (o .number) 0 && (writes (m .does) && eqb (m .tag) pointsTag))
+    (record {
+      number = o .number;
+      text = o .text;
+      areas =
+          withEntries (added (length (c .areas .journal)) (entries (c .areas)) (oldEntry (held c) pointsTag 1 (held c .points) (c .areas))) (o .areas);
+    })
+    o
+
 abbrev pub entersAll : Conduct
-entersAll =
-    record {
-      answer = λ c.
-          cond (eqb (answerOf c .number) 0 && asksWrite (asked c))
-          (record {
-            number = 0;
-            text = answerOf c .text;
-            areas =
-                withEntries (added (length (c .areas .journal)) (entries (c .areas)) (oldEntry (heldIn (lengthsOf (c .areas))) pointsTag 1 2 (c .areas)))
-                (answerOf c .areas);
-          })
-          (answerOf c);
-      back = backOf;
-    }
+entersAll = honestBut (λ c o. moreEntered c (asked c) o)
 
 pub record Broken : Type 0 where
   pub enters-new : EveryHistory entersNew → ⊥

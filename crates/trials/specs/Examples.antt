@@ -1,5 +1,5 @@
--- No statement is true for an empty reason: calls that meet the premises of the statements of Refused.antt and Replied.antt in demands, and of the laws
--- of other crates, and results that meet the contracts.
+-- No statement is true for an empty reason: calls that meet the premises of the statements of Refused.antt and Replied.antt in demands, values that meet
+-- those of four laws of other crates, and results that meet the contracts.
 use Prim.Native.Nat.{_+_, _*_, _≤_}
 use mathlib.Core.Path.{_≡_}
 use mathlib.Core.Bool.{false}

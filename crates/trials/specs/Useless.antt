@@ -20,6 +20,7 @@ use Rattle.calls.specs.Calls.{Areas, Sent, Call, Outcome, areasOf, entriesOf, o
 use Rattle.link.specs.declared.Answered.{Answered}
 use Rattle.link.specs.Answer.{held, asked, rest, writes, unanswered, answerOf, backOf}
 use Rattle.link.specs.Contract.{Answers}
+use Rattle.demands.specs.Refused.{asksWrite}
 use Rattle.demands.specs.History.{Conduct}
 use Rattle.demands.specs.Reading.{startOf, countOf, Host, asking, effectiveOf}
 use Rattle.demands.specs.Survive.{Accepted, EveryDigitSurvives}
@@ -93,18 +94,18 @@ outcomeBy board c =
       areas = areasOf (board c .areas .points) (board c .areas .columns) (board c .areas .journal) (board c .answered .kept);
     }
 
--- a board that does what is asked
-abbrev pub honest : Board
-honest c =
+-- a board that gives an outcome: the reply laid over the front of the reply area
+abbrev pub given : (Call → Outcome) → Board
+given answer c =
     record {
-      answered = record { number = answerOf c .number; length = length (answerOf c .text); kept = answerOf c .areas .kept };
-      areas = answerOf c .areas;
-      reply = laid (c .sent .reply) 0 (answerOf c .text);
+      answered = record { number = answer c .number; length = length (answer c .text); kept = answer c .areas .kept };
+      areas = answer c .areas;
+      reply = laid (c .sent .reply) 0 (answer c .text);
     }
 
 -- the contract rules them out; it can be met, so it isn't for an empty reason
 pub record Useless : Type 0 where
-  pub can-be-met : Meets honest
+  pub can-be-met : Meets (given answerOf)
   pub refuses-all : (board : Board) → RefusesAll (outcomeBy board) → Meets board → ⊥
   pub same-reply : (board : Board) → SameReply (outcomeBy board) → Meets board → ⊥
   pub stores-nothing : (board : Board) → StoresNothing (outcomeBy board) → Meets board → ⊥
@@ -120,7 +121,7 @@ pub record ShutOut : Type 0 where
   pub stores-first : (board : Conduct) → StoresFirst (board .answer) → EveryDigitSurvives board → ⊥
   pub invents-count : (board : Conduct) → InventsCount (board .answer) → EveryDigitSurvives board → ⊥
 
--- such boards, each honest in all else
+-- such boards, each honest in all that is not its defect
 abbrev pub honestBut : (Call → Outcome → Outcome) → Conduct
 honestBut change = record { answer = λ c. change c (answerOf c); back = backOf }
 
@@ -133,6 +134,13 @@ storing points columns o = record { number = o .number; text = o .text; areas = 
 abbrev pub handing : ℕ → Outcome → Outcome
 handing used o =
     record { number = o .number; text = o .text; areas = areasOf (o .areas .points) (o .areas .columns) (o .areas .journal) (record { used = used }) }
+
+-- in what is accepted alone, and in accepted writes alone
+abbrev pub whenAccepted : Call → (Outcome → Outcome) → Outcome → Outcome
+whenAccepted c change o = cond (eqb (o .number) 0) (change o) o
+
+abbrev pub whenWritten : Call → (Outcome → Outcome) → Outcome → Outcome
+whenWritten c change o = cond (eqb (o .number) 0 && asksWrite (asked c)) (change o) o
 
 -- a 244H that is accepted stores the slot of its first point alone
 abbrev pub firstOnly : Call → Asked → Outcome → Outcome
@@ -152,7 +160,7 @@ abbrev pub refuser : Conduct
 refuser = honestBut (λ c o. unanswered 8 (c .areas))
 
 abbrev pub parrot : Conduct
-parrot = honestBut (λ c o. saying (text "#9920000123456782B\r\n") o)
+parrot = honestBut (λ c o. whenAccepted c (saying (text "#9920000123456782B\r\n")) o)
 
 abbrev pub storesNothing : Conduct
 storesNothing = honestBut (λ c o. storing (c .areas .points) (c .areas .columns) o)
@@ -169,12 +177,14 @@ oneMore = honestBut (λ c o. tells (effectiveOf (c .areas) + 1) c (asked c) o)
 
 -- the journal's length for the used length, and one more than it should be
 abbrev pub usedAll : Conduct
-usedAll = honestBut (λ c o. handing (length (c .areas .journal)) o)
+usedAll = honestBut (λ c o. whenWritten c (handing (length (c .areas .journal))) o)
 
 abbrev pub usedMore : Conduct
-usedMore = honestBut (λ c o. handing (o .areas .kept .used + 1) o)
+usedMore = honestBut (λ c o. whenWritten c (handing (o .areas .kept .used + 1)) o)
 
 pub record Made : Type 0 where
+  -- each of them, as a board that the contract is asked of, has the outcome that it gives
+  pub given-so : (answer : Call → Outcome) (c : Call) → outcomeBy (given answer) c ≡ answer c
   pub refuses-all : RefusesAll (refuser .answer)
   pub same-reply : SameReply (parrot .answer)
   pub stores-nothing : StoresNothing (storesNothing .answer)
