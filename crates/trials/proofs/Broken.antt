@@ -9,7 +9,7 @@ use borrow.Author.Tests.{eq-eqb}
 use Rattle.kinds.specs.Kinds.{pointsTag, columnsTag}
 use Rattle.journal.specs.Journal.{Entry, encodes, added}
 use Rattle.calls.specs.declared.Kept.{Kept}
-use Rattle.calls.specs.Calls.{Areas, Sent, Call}
+use Rattle.calls.specs.Calls.{Areas, Call}
 use Rattle.refusals.specs.Refusals.{refusalOf}
 use Rattle.link.specs.Answer.{asked}
 use Rattle.table.specs.declared.Named.the-variants.{Known}
@@ -17,7 +17,7 @@ use Rattle.table.specs.Table.{messageOf}
 use Rattle.demands.specs.Refused.{asksWrite}
 use Rattle.demands.specs.Survive.{Accepted}
 use Rattle.demands.proofs.Commands.{writing}
-use Rattle.trials.proofs.Useless.{zero-bytes}
+use Rattle.trials.proofs.Useless.{zero-bytes, made}
 use Rattle.trials.specs.Cases.{holding}
 use Rattle.demands.specs.History.{Conduct, Event, frame, stepBack, callOn, after, acceptedWrite, alone, entries, entryBy, account, Holds, EveryHistory}
 use Rattle.trials.specs.Broken.{lotCode, pointOne, twoPoints, clearOne, unknown, smallest, small, Worked, entersNew, clears, refusalWrites, forgets, takesNothing, entersAll, NotWhole, Broken}
@@ -49,19 +49,6 @@ kept-so board h events = h (holding 2) 380 (record { some-points = omega arith; 
 -- a history whose first column is another
 fails : (board : Conduct) (events : List Event) (x y : ℕ) → there board events ≡ x → due board events ≡ y → (x ≡ y → ⊥) → EveryHistory board → ⊥
 fails board events x y e f k h = k (sym e ∙ ap (λ (s : List ℕ). getD s 0 0) (kept-so board h events .things columnsTag) ∙ f)
-
--- the pattern in a slot, after one write, and what it is by the account of the standing writes
-abbrev slot-there : Conduct → Sent → ℕ → ℕ
-slot-there board s at = getD (small board (frame s ∷ []) .areas .points) at 0
-
-abbrev slot-due : Conduct → Sent → ℕ → ℕ
-slot-due board s at = getD (account (holding 2) smallest (small board (frame s ∷ []) .standing-writes) .points) at 0
-
--- a write whose slot is another
-half-done : (board : Conduct) (s : Sent) (at : ℕ) → slot-there board s at ≡ 0 → slot-due board s at ≡ 1 → EveryHistory board → ⊥
-half-done board s at e f h =
-    let g : _≡_ {A = ℕ} 0 1 = sym e ∙ ap (λ (t : List ℕ). getD t at 0) (kept-so board h (frame s ∷ []) .whole-writes pointsTag) ∙ f in
-    omega (arith, g)
 
 -- the used length after one write, and that of the entries that are read there
 abbrev used-there : Conduct → ℕ
@@ -96,8 +83,6 @@ record Told : Type 0 where
   all-entered : acceptedWrite entersAll smallest pointOne ≡ true
   all-long : (length (encodes (entries (after entersAll smallest (frame pointOne)))) ≡ 85)
       × (length (encodes (added 380 (entries smallest) (entryBy (holding 2) smallest pointOne))) ≡ 45)
-  first-only : (slot-there storesFirst twoPoints 40 ≡ 0) × (slot-due storesFirst twoPoints 40 ≡ 1)
-  nothing-stored : (slot-there storesNothing twoPoints 0 ≡ 0) × (slot-due storesNothing twoPoints 0 ≡ 1)
   all-used : (used-there usedAll ≡ 380) × (used-due usedAll ≡ 1720)
   one-more : (used-there usedMore ≡ 46) × (used-due usedMore ≡ 50)
   entry-lost : (length (entries twice) ≡ 1) × (length (added 380 (entries once) (entryBy (holding 2) once clearOne)) ≡ 2)
@@ -118,8 +103,6 @@ told =
       both-due = (refl, refl);
       all-entered = refl;
       all-long = (refl, refl);
-      first-only = (refl, refl);
-      nothing-stored = (refl, refl);
       all-used = (refl, refl);
       one-more = (refl, refl);
       entry-lost = (refl, refl);
@@ -175,8 +158,8 @@ broken =
           let f : _≡_ {A = ℕ} 1 2 = sym (told .entry-lost .0) ∙ ap length (v .adds clearOne (told .second-accepted)) ∙ told .entry-lost .1 in
           omega (arith, f);
       takes-nothing = fails takesNothing written-back 0x30 0 (told .takes-nothing .0) (told .takes-nothing .1) (λ q. omega (arith, q));
-      stores-first = half-done storesFirst twoPoints 40 (told .first-only .0) (told .first-only .1);
-      stores-nothing = half-done storesNothing twoPoints 0 (told .nothing-stored .0) (told .nothing-stored .1);
+      stores-first = not-whole .stores-first storesFirst (made .stores-first);
+      stores-nothing = not-whole .stores-nothing storesNothing (made .stores-nothing);
       used-all = invented usedAll 380 1720 (told .all-used .0) (told .all-used .1) (λ q. omega (arith, q));
       used-more = invented usedMore 46 50 (told .one-more .0) (told .one-more .1) (λ q. omega (arith, q));
     }

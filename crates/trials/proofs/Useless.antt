@@ -15,8 +15,10 @@ use Rattle.digits.proofs.Bools.{either}
 use Rattle.frames.specs.Frame.{normal, replyOf}
 use Rattle.kinds.specs.Kinds.{pointsOf, heldIn, holds, runOf, put}
 use Rattle.kinds.proofs.Known.{kind-points, within}
+use Rattle.journal.specs.Journal.{encodes, added}
 use Rattle.points.specs.Point.{effectiveIn, slotsOf}
 use Rattle.table.specs.declared.Message.{Message}
+use Rattle.table.specs.declared.Named.{Named}
 use Rattle.table.specs.declared.Named.the-variants.{Known}
 use Rattle.messages.specs.declared.Asked.{Asked}
 use Rattle.table.specs.Table.{messageOf}
@@ -27,8 +29,8 @@ use Rattle.link.specs.Answer.{held, asked, rest, writes, answerOf}
 use Rattle.link.proofs.Answering.{accepted, frame-number}
 use Rattle.link.proofs.Carrying.{fine, slots-long}
 use Rattle.trials.specs.Cases.{holding, bench}
-use Rattle.demands.specs.History.{Conduct}
-use Rattle.demands.specs.Reading.{startOf, countOf, Host, asking, effectiveOf}
+use Rattle.demands.specs.History.{Conduct, entries, entrySaid}
+use Rattle.demands.specs.Reading.{content, startOf, countOf, Host, asking, effectiveOf}
 use Rattle.demands.specs.Survive.{Accepted, effectiveNamed, EveryDigitSurvives}
 use Rattle.trials.specs.Useless.{behindFirst, StoresFirst, InventsCount, usedAfter, Board, Meets, outcomeBy, given, Useless, ShutOut, saying, firstOnly, parrot, storesFirst, fiveAlways, oneMore, usedAll, usedMore, Made}
 use Rattle.trials.proofs.Computing.{a-call}
@@ -82,7 +84,7 @@ record Told : Type 0 where
   two-counted : (effectiveNamed writing two-points ≡ 0) × (countOf writing (two-points .sent) ≡ 2)
   none-counted : effectiveNamed clearing no-point ≡ 0
   one-said : replyOf normal 0x99 (text "208" ++ digitsOf 3 (effectiveOf (answerOf one-point .areas))) ≡ text "#99208001C0\r\n"
-  used-all : usedAfter writing two-points ≡ 85
+  used-all : usedAfter two-points ≡ 85
   all-told : usedAll .answer two-points .areas .kept .used ≡ 380
   more-told : usedMore .answer two-points .areas .kept .used ≡ 86
 
@@ -140,8 +142,11 @@ is-taken : {id : ℕ} (c : Call) (a : Accepted id c) → Took (a .message) c
 is-taken c a = took (a .message) c (a .known) (frame-number c ∙ a .number)
 
 -- the used length that an accepted write leaves
-left-used : {id : ℕ} (c : Call) (a : Accepted id c) → writes (a .message .does) ≡ true → answerOf c .areas .kept .used ≡ usedAfter (a .message) c
-left-used c a w = ap (λ (x : Areas). x .kept .used) (areas-left (a .message) c (is-taken c a) true w)
+left-used : {id : ℕ} (c : Call) (a : Accepted id c) → writes (a .message .does) ≡ true → answerOf c .areas .kept .used ≡ usedAfter c
+left-used c a w =
+    ap (λ (x : Areas). x .kept .used) (areas-left (a .message) c (is-taken c a) true w)
+    ∙ ap (λ (n : Named). length (encodes (added (length (c .areas .journal)) (entries (c .areas)) (entrySaid (held c) n (content (c .sent)) (c .areas)))))
+    (sym (a .known))
 
 -- so its count is the true one
 same-outcome : (board : Board) → Meets board → (c : Call) → outcomeBy board c ≡ answerOf c

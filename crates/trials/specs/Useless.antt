@@ -16,12 +16,12 @@ use Rattle.points.specs.Point.{slotsOf}
 use Rattle.table.specs.declared.Message.{Message}
 use Rattle.messages.specs.declared.Asked.{Asked}
 use Rattle.messages.specs.declared.Asked.the-variants.{Refused, Order}
-use Rattle.calls.specs.Calls.{Areas, Sent, Call, Outcome, areasOf, entriesOf, oldEntry}
+use Rattle.calls.specs.Calls.{Areas, Sent, Call, Outcome, areasOf}
 use Rattle.link.specs.declared.Answered.{Answered}
 use Rattle.link.specs.Answer.{held, asked, rest, writes, unanswered, answerOf, backOf}
 use Rattle.link.specs.Contract.{Answers}
 use Rattle.demands.specs.Refused.{asksWrite}
-use Rattle.demands.specs.History.{Conduct}
+use Rattle.demands.specs.History.{Conduct, entries, entryBy}
 use Rattle.demands.specs.Reading.{startOf, countOf, Host, asking, effectiveOf}
 use Rattle.demands.specs.Survive.{Accepted, EveryDigitSurvives}
 
@@ -58,19 +58,15 @@ pub record InventsCount (answer : Call → Outcome) : Type 0 where
       ≡ replyOf normal (host .settings .station) (text "208" ++ digitsOf 3 (effectiveOf (answer call .areas))) → ⊥
 
 -- "or the used length (the journal rule)": after some accepted write it is not that of the journal with the write's entry added
-abbrev pub usedAfter : Message → Call → ℕ
-usedAfter m c =
-    length
-    (encodes
-    (added (length (c .areas .journal)) (entriesOf (held c) (c .areas))
-    (oldEntry (held c) (m .tag) (startOf m (c .sent)) (countOf m (c .sent)) (c .areas))))
+abbrev pub usedAfter : Call → ℕ
+usedAfter c = length (encodes (added (length (c .areas .journal)) (entries (c .areas)) (entryBy (held c) (c .areas) (c .sent))))
 
 pub record InventsUsed (answer : Call → Outcome) : Type 0 where
   pub id : ℕ
   pub call : Call
   pub accepted : Accepted id call
   pub is-write : writes (accepted .message .does) ≡ true
-  pub other : answer call .areas .kept .used ≡ usedAfter (accepted .message) call → ⊥
+  pub other : answer call .areas .kept .used ≡ usedAfter call → ⊥
 
 -- all that a board gives for a call
 pub record Given : Type 0 where
