@@ -3,12 +3,15 @@ SHELL := /bin/bash
 .SHELLFLAGS := -eu -o pipefail -c
 .ONESHELL:
 .SILENT:
-.PHONY: run test second archive header host vectors stored differential benchmark tools
+.PHONY: run test second archive header host sections vectors stored differential benchmark tools
 
 STRICT := -Wall -Wextra -Werror -pedantic -Iinclude
 ARCHIVE := target/staticlib/libboard.a
-# host/plain.c under the archive's names
+# bytes of read-only data that the archive may have: what it has, and less than 256 more
+READ_ONLY := 1200
+# host/plain.c under the archive's names, and under those that host/benchmark.c gives it where it is compiled at -O3
 AS_ARCHIVE := -Dplain_receive=cabinet_receive -Dplain_answer=cabinet_answer -Dplain_step_back=cabinet_step_back
+AS_O3 := -Dplain_receive=plain_o3_receive -Dplain_answer=plain_o3_answer -Dplain_step_back=plain_o3_step_back
 
 # rt says where its toolchain is. Asked only where it is needed: the other targets run without rt.
 MACHINE := $(shell uname -m)
@@ -44,7 +47,7 @@ test: tools
 	rt ci | tee "$$log"
 	last=$$(tail -n 1 "$$log")
 	[[ $$last =~ ^[0-9]+\ passed,\ 0\ failed$$ ]] || { echo "rt ci did not end in 'N passed, 0 failed': $$last" >&2; exit 1; }
-	$(MAKE) --no-print-directory second stored header host differential
+	$(MAKE) --no-print-directory second stored header host sections differential
 	echo "$$last"
 
 # the independent second program's own tests
@@ -94,16 +97,33 @@ host: tools archive
 	$(X86) target/host/play_vectors < crates/vectors/stdin | cmp - crates/vectors/stdout
 	echo "vectors: $$(wc -l < crates/vectors/stdout) calls as the second program says"
 
+# the archive's read-only data, in which no table of digits is (.ci/sections); host/plain.c has one, and must be refused. A table in the source would be
+# laid by code at each use, where no section shows it
+sections: tools archive
+	.ci/sections $(ARCHIVE) $(READ_ONLY)
+	$(X86CC) -std=c99 -O2 $(STRICT) -c host/plain.c -o target/host/plain.o
+	if said=$$(.ci/sections target/host/plain.o $(READ_ONLY) 2>&1) || ! grep -q '^read-only data of [0-9]* bytes: [.]rodata' <<< "$$said"; then
+	    echo "the table of host/plain.c was not refused: $$said" >&2
+	    exit 1
+	fi
+	if grep -nE 'const [A-Z_]+: *\[[^;]*; *(2[3-9]|[3-9][0-9]|[0-9]{3,})\]' crates/*/src/*.rt; then
+	    echo "a table in the source" >&2
+	    exit 1
+	fi
+
 # drawn calls compared with the second program, every byte of every area after each; DIFFERENTIAL_CALLS=N and DIFFERENTIAL_SEED=N for others
 differential: tools archive
 	$(X86CC) -std=c99 -O2 $(STRICT) host/play_calls.c $(ARCHIVE) -o target/host/play_calls
 	PLAYER="$(X86) target/host/play_calls" cargo run --quiet --offline --release --manifest-path second/Cargo.toml --target-dir target/second --bin differential
 
-# the archive's time beside host/plain.c's, which is compared first as the archive is. The emulator runs `rep stosb`, the C library's way to fill
-# long areas, byte by byte; without ERMS the library takes another.
+# the archive's time beside host/plain.c's, compiled at -O2 and at -O3, each compared first as the archive is. The emulator runs `rep stosb`, the C
+# library's way to fill long areas, byte by byte; without ERMS the library takes another.
 benchmark: tools archive
-	gcc -std=c99 -O2 $(STRICT) $(AS_ARCHIVE) host/play_calls.c host/plain.c -o target/host/play_plain
-	PLAYER="target/host/play_plain" cargo run --quiet --offline --release --manifest-path second/Cargo.toml --target-dir target/second --bin differential | tail -n 1
-	$(X86CC) -std=c99 -O2 $(STRICT) host/benchmark.c host/plain.c $(ARCHIVE) -o target/host/benchmark
+	for level in 2 3; do
+	    gcc -std=c99 -O$$level $(STRICT) $(AS_ARCHIVE) host/play_calls.c host/plain.c -o target/host/play_plain
+	    PLAYER="target/host/play_plain" cargo run --quiet --offline --release --manifest-path second/Cargo.toml --target-dir target/second --bin differential | tail -n 1
+	done
+	$(X86CC) -std=c99 -O3 $(STRICT) $(AS_O3) -c host/plain.c -o target/host/plain_o3.o
+	$(X86CC) -std=c99 -O2 $(STRICT) host/benchmark.c host/plain.c target/host/plain_o3.o $(ARCHIVE) -o target/host/benchmark
 	echo "$$(lscpu | sed -n 's/^Model name: *//p')$(if $(X86),$(comma) x86-64 code under the emulator)"
 	QEMU_CPU=max,-erms $(X86) target/host/benchmark

@@ -1,9 +1,11 @@
 /*
  * benchmark.c: the archive's calls beside plain.c's, in one process, on the same buffers and frames.
+ * plain.c is linked twice, compiled at -O2 and at -O3; the archive's peer is the faster of the two, row by
+ * row.
  *
- * Each trial is first made by both, a few times over; the number, the reply and every area must be the
- * same, else it exits 1. Then both are timed in turns, and the best turn of each counts. The table goes
- * to standard output.
+ * Each trial is first made by all three, a few times over; the number, the reply and every area must be
+ * the same, else it exits 1. Then they are timed in turns, and the best turn of each counts. The table
+ * goes to standard output.
  *
  * Every call of a trial does the same work. Before each (`put_back`) the used length is set again, so a
  * write finds the same entries before it; only its old bytes are then the ones it wrote. Where a journal
@@ -24,13 +26,19 @@
 #define FITTED 0xFF
 #define RECEIVED 4096 /* bytes that the finder looks through */
 #define LINE 3840.0   /* bytes a second: 38,400 baud, ten bits a byte */
-#define TURNS 100     /* of each implementation; short, so that some are undisturbed */
+#define TURNS 200     /* of each implementation; short, so that some are undisturbed */
 #define TURN 2e6      /* nanoseconds at least */
 #define CHECKED_CALLS 3
 #define POINTS_TAG 0x50
 #define COLUMNS_TAG 0x53
 
-/* ---- the two implementations ---- */
+/* ---- the implementations ---- */
+
+/* plain.c's calls as they are named where it is compiled at -O3 (Makefile). */
+uint8_t plain_o3_receive(const uint8_t *, size_t, size_t *, size_t *, size_t *);
+uint16_t plain_o3_answer(const uint8_t *, size_t, uint8_t *, size_t, uint8_t *, size_t, uint8_t *, size_t,
+                         size_t *, const uint8_t *, size_t, uint8_t, uint8_t, uint8_t *, size_t, size_t *);
+uint16_t plain_o3_step_back(uint8_t *, size_t, uint8_t *, size_t, uint8_t *, size_t, size_t *);
 
 struct calls {
     uint8_t (*receive)(const uint8_t *, size_t, size_t *, size_t *, size_t *);
@@ -39,8 +47,13 @@ struct calls {
     uint16_t (*step_back)(uint8_t *, size_t, uint8_t *, size_t, uint8_t *, size_t, size_t *);
 };
 
-static const struct calls archive = {cabinet_receive, cabinet_answer, cabinet_step_back};
-static const struct calls plain = {plain_receive, plain_answer, plain_step_back};
+enum { ARCHIVE, PLAIN_O2, PLAIN_O3, MADE };
+
+static const struct calls made[MADE] = {
+    {cabinet_receive, cabinet_answer, cabinet_step_back},
+    {plain_receive, plain_answer, plain_step_back},
+    {plain_o3_receive, plain_o3_answer, plain_o3_step_back}
+};
 
 /* ---- a trial ---- */
 
@@ -70,7 +83,7 @@ static struct {
 } trial;
 
 static struct board built; /* as the trial begins */
-static struct board work;  /* what the calls are made on, both implementations' */
+static struct board work;  /* what the calls are made on, every implementation's */
 
 static void fail(const char *why)
 {
@@ -262,15 +275,18 @@ static void make_calls(const struct calls *calls, size_t count, unsigned number,
     memcpy(left, &work, sizeof work);
 }
 
-/* Both leave the same after the first call and after each that follows. */
+/* All leave the same after the first call and after each that follows. */
 static void check(unsigned number, size_t reply_length)
 {
     static struct board one, other;
     size_t count;
+    int by;
     for (count = 1; count <= CHECKED_CALLS; count++) {
-        make_calls(&archive, count, number, &one);
-        make_calls(&plain, count, number, &other);
-        compare(&one, &other);
+        make_calls(&made[ARCHIVE], count, number, &one);
+        for (by = PLAIN_O2; by < MADE; by++) {
+            make_calls(&made[by], count, number, &other);
+            compare(&one, &other);
+        }
         if (one.reply_length != reply_length)
             fail("another reply's length than expected");
     }
@@ -333,41 +349,44 @@ static const char dashes[] = "--------------------------------------------------
 
 static void print_head(void)
 {
-    printf("| %-61s | %4s | %10s | %8s | %5s | %21s |\n", "Call", "N", "archive ns", "plain ns", "ratio",
-           "times the line's rate");
-    printf("|:%.61s-|-%.4s:|-%.10s:|-%.8s:|-%.5s:|-%.21s:|\n", dashes, dashes, dashes, dashes, dashes,
-           dashes);
+    printf("| %-61s | %4s | %10s | %8s | %8s | %5s | %21s |\n", "Call", "N", "archive ns", "-O2 ns", "-O3 ns",
+           "ratio", "times the line's rate");
+    printf("|:%.61s-|-%.4s:|-%.10s:|-%.8s:|-%.8s:|-%.5s:|-%.21s:|\n", dashes, dashes, dashes, dashes, dashes,
+           dashes, dashes);
 }
 
-/* `bytes` are those that the line carries for the call; a step back has none. */
-static void print_row(double archives, double plains, size_t bytes)
+/* The ratio is to the faster of the two. `bytes` are those that the line carries for the call; a step back has none. */
+static void print_row(const double best[MADE], size_t bytes)
 {
     char held[16] = "-", rate[24] = "-";
     if (trial.kind != RECEIVE)
         snprintf(held, sizeof held, "%lu", (unsigned long)trial.held);
     if (bytes > 0)
-        snprintf(rate, sizeof rate, "%.0f", (double)bytes / LINE * 1e9 / archives);
-    printf("| %-61s | %4s | %10.0f | %8.0f | %5.2f | %21s |\n", trial.name, held, archives, plains,
-           archives / plains, rate);
+        snprintf(rate, sizeof rate, "%.0f", (double)bytes / LINE * 1e9 / best[ARCHIVE]);
+    printf("| %-61s | %4s | %10.0f | %8.0f | %8.0f | %5.2f | %21s |\n", trial.name, held, best[ARCHIVE],
+           best[PLAIN_O2], best[PLAIN_O3], best[ARCHIVE] / smaller(best[PLAIN_O2], best[PLAIN_O3]), rate);
     fflush(stdout);
 }
 
-/* The call is checked, then timed: both in turns, the best turn of each. */
+/* The call is checked, then timed: all in turns, the best turn of each. */
 static void run(unsigned number, size_t reply_length)
 {
-    size_t archive_repeats, plain_repeats;
-    double archives = 1e18, plains = 1e18, rest = 1e18;
-    int turn;
+    size_t repeats[MADE];
+    double best[MADE], rest = 1e18;
+    int turn, by;
     check(number, reply_length);
-    archive_repeats = enough_repeats(&archive, number);
-    plain_repeats = enough_repeats(&plain, number);
-    for (turn = 0; turn < TURNS; turn++) {
-        archives = smaller(archives, time_calls(&archive, archive_repeats, number));
-        plains = smaller(plains, time_calls(&plain, plain_repeats, number));
-        rest = smaller(rest, time_put_back(plain_repeats));
+    for (by = 0; by < MADE; by++) {
+        repeats[by] = enough_repeats(&made[by], number);
+        best[by] = 1e18;
     }
-    print_row(archives - rest, plains - rest,
-              trial.kind == STEP_BACK ? 0 : trial.handed_length + reply_length);
+    for (turn = 0; turn < TURNS; turn++) {
+        for (by = 0; by < MADE; by++)
+            best[by] = smaller(best[by], time_calls(&made[by], repeats[by], number));
+        rest = smaller(rest, time_put_back(repeats[PLAIN_O2]));
+    }
+    for (by = 0; by < MADE; by++)
+        best[by] -= rest;
+    print_row(best, trial.kind == STEP_BACK ? 0 : trial.handed_length + reply_length);
 }
 
 static void run_frame(unsigned number, size_t reply_length)

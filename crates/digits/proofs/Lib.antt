@@ -1,5 +1,4 @@
 pub mod Bools
-pub mod ByRule
 pub mod OneDigit
 pub mod Inverse
 pub mod Laid

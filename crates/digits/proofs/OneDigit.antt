@@ -1,6 +1,6 @@
 -- Laws of one digit: one over what is admitted, one over the worth. Callers cite these, not the ranges of its byte.
-use mathlib.Core.Path.{_≡_, refl, sym, ap, _∙_}
-use mathlib.Core.Bool.{Bool, true, false, cond, _&&_, _||_}
+use mathlib.Core.Path.{_≡_, refl, sym, _∙_}
+use mathlib.Core.Bool.{Bool, true, false, cond, _&&_, _||_, true≢false, false≢true}
 use Prim.Native.Nat.{ℕ, _+_, _-_, _≤_, _<_}
 use native.Mathlib.Omega.{arith}
 use lib.Dec.{leb, ltb}
@@ -13,19 +13,23 @@ pub data Is (b : ℕ) : Type 0 where
   capital : 65 ≤ b → b ≤ 70 → isDigit b ≡ true → worthOf b ≡ b - 65 + 10 → Is b
   other : isDigit b ≡ false → worthOf b ≡ 0 → Is b
 
+-- both ends of a range
+pub ends : (first last b : ℕ) → within first last b ≡ true → (first ≤ b) × (b ≤ last)
+ends first last b e = go (leb first b) refl (leb b last) refl e
+  where
+    go : (p : Bool) → leb first b ≡ p → (q : Bool) → leb b last ≡ q → p && q ≡ true → (first ≤ b) × (b ≤ last)
+    go true f true g e = (leb-true first b f, leb-true b last g)
+    go true f false g e = absurd (false≢true e)
+    go false f q g e = absurd (false≢true e)
+
 pub is : (b : ℕ) → Is b
 unfolding isDigit worthOf
-is b = first (leb 48 b) refl (leb b 57) refl
+is b = go (within 48 57 b) refl (within 65 70 b) refl
   where
-    second : (p : Bool) → leb 65 b ≡ p → (q : Bool) → leb b 70 ≡ q → within 48 57 b ≡ false → Is b
-    second true e true f g = capital (leb-true 65 b e) (leb-true b 70 f) (rw (g, e, f)) (rw (g, e, f))
-    second true e false f g = other (rw (g, e, f)) (rw (g, e, f))
-    second false e q f g = other (rw (g, e)) (rw (g, e))
-
-    first : (p : Bool) → leb 48 b ≡ p → (q : Bool) → leb b 57 ≡ q → Is b
-    first true e true f = figure (leb-true 48 b e) (leb-true b 57 f) (rw (e, f)) (rw (e, f))
-    first true e false f = second (leb 65 b) refl (leb b 70) refl (rw (e, f))
-    first false e q f = second (leb 65 b) refl (leb b 70) refl (rw e)
+    go : (p : Bool) → within 48 57 b ≡ p → (q : Bool) → within 65 70 b ≡ q → Is b
+    go true e q f = let h = ends 48 57 b e in figure (h .0) (h .1) (rw e) (rw e)
+    go false e true f = let h = ends 65 70 b f in capital (h .0) (h .1) (rw (e, f)) (rw (e, f))
+    go false e false f = other (rw (e, f)) (rw (e, f))
 
 -- the worth is below sixteen, whatever the byte
 pub below-sixteen : (b : ℕ) → worthOf b < 16
@@ -36,6 +40,23 @@ below-sixteen b = go (is b)
     go (capital h k d e) = omega arith
     go (other d e) = omega arith
 
+-- of a byte that is known to be a digit, one comparison tells its worth
+pub figure-worth : (b : ℕ) → isDigit b ≡ true → b < 65 → (48 ≤ b) × (worthOf b ≡ b - 48)
+figure-worth b a l = go (is b)
+  where
+    go : Is b → (48 ≤ b) × (worthOf b ≡ b - 48)
+    go (figure h k d e) = (h, e)
+    go (capital h k d e) = absurd (omega arith)
+    go (other d e) = absurd (true≢false (sym a ∙ d))
+
+pub capital-worth : (b : ℕ) → isDigit b ≡ true → 65 ≤ b → worthOf b ≡ b - 65 + 10
+capital-worth b a l = go (is b)
+  where
+    go : Is b → worthOf b ≡ b - 65 + 10
+    go (figure h k d e) = absurd (omega arith)
+    go (capital h k d e) = e
+    go (other d e) = absurd (true≢false (sym a ∙ d))
+
 -- the byte of what an admitted digit is worth is that byte
 pub byte-worth : (b : ℕ) → isDigit b ≡ true → byteOf (worthOf b) ≡ b
 unfolding byteOf
@@ -44,7 +65,7 @@ byte-worth b a = go (is b)
     go : Is b → cond (ltb (worthOf b) 10) (worthOf b + 48) (worthOf b - 10 + 65) ≡ b
     go (figure l k d e) = rw (lt-ltb (worthOf b) 10 (omega arith)) (omega arith)
     go (capital l k d e) = rw (le-ltb (worthOf b) 10 (omega arith)) (omega arith)
-    go (other d e) = let z : _≡_ {A = ℕ} 1 0 = ap (λ (p : Bool). cond p 1 0) (sym a ∙ d) in absurd (omega arith)
+    go (other d e) = absurd (true≢false (sym a ∙ d))
 
 -- a digit's byte is admitted, and worth that digit
 pub worth-byte : (n : ℕ) → n < 16 → (worthOf (byteOf n) ≡ n) × (isDigit (byteOf n) ≡ true)

@@ -1,43 +1,53 @@
 -- One turn of each loop over digits.
-use Prim.Native.Nat.{ℕ, suc, _+_, _-_, _*_, _/_, _%_, _≤_, _<_, _^_}
+use Prim.Native.Nat.{ℕ, zero, suc, _+_, _-_, _*_, _/_, _%_, _≤_, _<_, _^_}
 use mathlib.Core.Path.{_≡_, refl, sym, ap, _∙_}
-use mathlib.Core.Bool.{true, false}
+use mathlib.Core.Bool.{true, _&&_}
 use mathlib.Core.List.{List, [], _∷_, _++_}
 use native.Mathlib.Omega.{arith}
 use native.Mathlib.Nat.{pow-suc, pow-le-pow-right, add-assoc, add-zero}
 use native.Mathlib.Numerals.{add-one}
 use lib.ListN.{length, take, drop, getD, set, drop-of-length-le, length-drop}
 use lib.Seq.{drop-cons, take-all, take-at, take-take, getD-take, getD-at}
-use Rattle.digits.specs.Digits.{isDigit, worthOf, allDigits, byteOf, numberAfter, digitsOf}
+use Rattle.digits.specs.Digits.{isDigit, worthOf, allDigits, byteOf, numberAfter, numberOf, digitsOf}
 use Rattle.digits.specs.Laid.{laid}
 use Rattle.digits.proofs.OneDigit.{below-sixteen}
 use Rattle.digits.proofs.Laid.{laid-before, laid-nothing, length-laid}
-use Rattle.digits.proofs.Inverse.{as-many}
+use Rattle.digits.proofs.Inverse.{as-many, and-left, and-right}
+
+-- each byte of digits is one
+pub digit-at : (s : List ℕ) (i : ℕ) → allDigits s ≡ true → i < length s → isDigit (getD s i 0) ≡ true
+digit-at [] i a h = absurd (omega arith)
+digit-at (b ∷ s) zero a h = and-left (isDigit b) (allDigits s) a
+digit-at (b ∷ s) (suc i) a h = digit-at s i (and-right (isDigit b) (allDigits s) a) (omega arith)
 
 module _ (s : List ℕ) (i : ℕ) where
-  pub all-next : i < length s → isDigit (getD s i 0) ≡ true → allDigits (drop i s) ≡ allDigits (drop (i + 1) s)
-  all-next h d = rw (add-one, drop-cons s i 0 h, d)
-
-  pub all-stop : i < length s → isDigit (getD s i 0) ≡ false → allDigits (drop i s) ≡ false
-  all-stop h d = rw (drop-cons s i 0 h, d)
+  pub all-next : i < length s → allDigits (drop i s) ≡ isDigit (getD s i 0) && allDigits (drop (i + 1) s)
+  all-next h = rw (add-one, drop-cons s i 0 h)
 
   pub all-done : length s ≤ i → allDigits (drop i s) ≡ true
   all-done h = rw (drop-of-length-le s h)
 
-  pub number-next : (n : ℕ) → i < length s → numberAfter n (drop i s) ≡ numberAfter (n * 16 + worthOf (getD s i 0)) (drop (i + 1) s)
-  number-next n h = rw (add-one, drop-cons s i 0 h)
+-- the first i bytes are read, and write n
+pub record Read (s : List ℕ) (n i : ℕ) : Type 0 where
+  pub most : i ≤ length s
+  pub rest : numberAfter n (drop i s) ≡ numberOf s
+  pub below : n < 16 ^ i
 
-  pub number-done : (n : ℕ) → length s ≤ i → numberAfter n (drop i s) ≡ n
-  number-done n h = rw (drop-of-length-le s h)
+pub read-first : (s : List ℕ) → Read s 0 0
+read-first s = record { most = omega arith; rest = refl; below = omega arith }
 
--- i bytes write less than sixteen to the i
-pub below-next : (n i b : ℕ) → n < 16 ^ i → n * 16 + worthOf b < 16 ^ (i + 1)
-below-next n i b h =
+pub read-next : (s : List ℕ) (n i d : ℕ) → Read s n i → i < length s → d ≡ worthOf (getD s i 0) → Read s (n * 16 + d) (i + 1)
+read-next s n i d r h e =
     let p : 16 ^ (i + 1) ≡ 16 ^ i * 16 = rw add-one (pow-suc 16 i) in
-    omega (arith, below-sixteen b)
+    let o : numberAfter n (drop i s) ≡ numberAfter (n * 16 + d) (drop (i + 1) s) = rw (e, add-one, drop-cons s i 0 h) in
+    record { most = omega arith; rest = sym o ∙ r .rest; below = omega (arith, r .below, below-sixteen (getD s i 0)) }
 
-pub below-fits : (i : ℕ) → i ≤ 8 → 16 ^ i ≤ 4294967296
-below-fits i h = pow-le-pow-right {n = 16} (omega arith) {i = i} {j = 8} h
+pub read-done : (s : List ℕ) (n i : ℕ) → Read s n i → length s ≤ i → n ≡ numberOf s
+read-done s n i r h = let o : numberAfter n (drop i s) ≡ n = rw (drop-of-length-le s h) in sym o ∙ r .rest
+
+-- so many bytes write less than a number of four bytes holds
+pub read-fits : (s : List ℕ) (n i : ℕ) → Read s n i → i ≤ 8 → n < 4294967296
+read-fits s n i r h = omega (arith, r .below, pow-le-pow-right {n = 16} (omega arith) {i = i} {j = 8} h)
 
 -- the digits still to be laid, from the last one on
 pub record Left (at width n left rest : ℕ) (area₀ area : List ℕ) : Type 0 where

@@ -1,33 +1,36 @@
 // Digits 0-9 and A-F, capitals only, and fields of them (document 01, "Frame").
-mod worths;
-
 ghost use mathlib.Core.Path.{_≡_};
+ghost use mathlib.Core.Bool.{true};
 ghost use Prim.Native.Nat.{_+_, _≤_, _<_};
 ghost use lib.ListN.{length};
-ghost use Rattle.digits.specs.Digits.{isDigit, worthOf, byteOf, allDigits, numberOf, digitsOf, fieldOf};
+ghost use Rattle.digits.specs.Digits.{within, isDigit, worthOf, byteOf, allDigits, numberOf, digitsOf, fieldOf};
 ghost use Rattle.digits.specs.Laid.{laid};
+
+// Whether a byte is one of a range.
+fn within(b: u8, first: u8, last: u8) -> bool
+    ensures { λ r. ⌜ r ≡ within first last b ⌝ }
+{
+    first <= b && b <= last
+}
 
 // Whether a byte is admitted as a digit.
 pub fn is_digit(b: u8) -> bool
     ensures { λ r. ⌜ r ≡ isDigit b ⌝ }
 {
-    if b < 0x30 {
-        return false;
-    }
-    if b <= 0x39 {
-        return true;
-    }
-    if b < 0x41 {
-        return false;
-    }
-    b <= 0x46
+    within(b, 0x30, 0x39) || within(b, 0x41, 0x46)
 }
 
 // What a digit is worth; any other byte is worth nothing.
 pub fn worth(b: u8) -> u8
     ensures { λ r. ⌜ (r ≡ worthOf b) × (r < 16) ⌝ }
 {
-    worths::WORTH[b as usize]
+    if within(b, 0x30, 0x39) {
+        return b - 0x30;
+    }
+    if within(b, 0x41, 0x46) {
+        return b - 0x41 + 10;
+    }
+    0
 }
 
 // The byte of a digit that is worth n.
@@ -35,24 +38,25 @@ pub fn byte(n: u8) -> u8
     requires { ⌜ n < 16 ⌝ }
     ensures { λ r. ⌜ r ≡ byteOf n ⌝ }
 {
+    let mut from = 0x37; // 'A' less ten
     if n < 10 {
-        return n + 0x30;
+        from = 0x30;
     }
-    n - 10 + 0x41
+    n + from
 }
 
-// Whether every byte is a digit.
+// Whether every byte is a digit. It looks at each, so that the compiler looks at many at once.
 pub fn all_digits(s: &[u8]) -> bool
     ensures { λ r. ⌜ r ≡ allDigits (now (s .entry)) ⌝ }
 {
+    let mut all = true;
     let mut i = 0;
     while i < s.len() {
-        if !is_digit(s[i]) {
-            return false;
-        }
+        let admitted = is_digit(s[i]);
+        all = all & admitted;
         i += 1;
     }
-    true
+    all
 }
 
 // A byte as a number: its cast needs no proof where it is used.
@@ -76,6 +80,31 @@ pub fn number(s: &[u8]) -> u64
     n
 }
 
+// What a byte is worth that is known to be a digit: one comparison. In eight bytes, as the numbers that it goes into.
+fn digit(b: u64) -> u64
+    requires { ⌜ isDigit b ≡ true ⌝ }
+    ensures { λ r. ⌜ (r ≡ worthOf b) × (r < 16) ⌝ }
+{
+    if b < 0x41 {
+        return b - 0x30;
+    }
+    b - 0x41 + 10
+}
+
+// The number of up to eight bytes that are known to be digits.
+pub fn value(s: &[u8]) -> u64
+    requires { ⌜ (length (now s) ≤ 8) × (allDigits (now s) ≡ true) ⌝ }
+    ensures { λ r. ⌜ r ≡ numberOf (now (s .entry)) ⌝ }
+{
+    let mut so_far: u64 = 0;
+    let mut i = 0;
+    while i < s.len() {
+        so_far = so_far * 16 + digit(wide(s[i]));
+        i += 1;
+    }
+    so_far
+}
+
 // What a field says.
 pub enum Field {
     Number(u64),
@@ -88,7 +117,7 @@ pub fn read_field(s: &[u8]) -> Field
     ensures { λ r. ⌜ r ≡ fieldOf (now (s .entry)) ⌝ }
 {
     if all_digits(s) {
-        Field::Number(number(s))
+        Field::Number(value(s))
     } else {
         Field::NotDigits
     }

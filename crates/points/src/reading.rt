@@ -16,7 +16,7 @@ fn two_digits(field: &[u8]) -> u8
     requires { ⌜ (length (now field) ≡ 2) × (allDigits (now field) ≡ true) ⌝ }
     ensures { λ r. ⌜ r ≡ numberOf (now (field .entry)) ⌝ }
 {
-    digits::number(field) as u8
+    digits::value(field) as u8
 }
 
 // The number that four digits write.
@@ -24,7 +24,7 @@ fn four_digits(field: &[u8]) -> u16
     requires { ⌜ (length (now field) ≡ 4) × (allDigits (now field) ≡ true) ⌝ }
     ensures { λ r. ⌜ r ≡ numberOf (now (field .entry)) ⌝ }
 {
-    digits::number(field) as u16
+    digits::value(field) as u16
 }
 
 // The position that eight digits write in two's complement.
@@ -32,7 +32,7 @@ fn read_position(field: &[u8]) -> Position
     requires { ⌜ (length (now field) ≡ 8) × (allDigits (now field) ≡ true) ⌝ }
     ensures { λ r. ⌜ r ≡ positionOf (now (field .entry)) ⌝ }
 {
-    Position::of(digits::number(field) as u32)
+    Position::of(digits::value(field) as u32)
 }
 
 // The positions of a pattern's axes, lowest first; those of absent axes are 0.

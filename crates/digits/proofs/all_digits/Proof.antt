@@ -1,19 +1,19 @@
 use Prim.Native.Nat.{_+_, _-_, _≤_, _<_}
-use mathlib.Core.Path.{_≡_, refl, sym, _∙_}
+use mathlib.Core.Path.{_≡_, refl, sym, ap, _∙_}
+use mathlib.Core.Bool.{Bool, _&&_, and-assoc, and-true}
 use native.Mathlib.Omega.{arith}
 use lib.ListN.{length, drop, getD}
 use borrow.Author.Needs.{needs}
 use Rattle.digits.specs.Digits.{allDigits, isDigit}
-use Rattle.digits.proofs.Bools.{was-false, was-true}
-use Rattle.digits.proofs.Reading.{all-next, all-stop, all-done}
+use Rattle.digits.proofs.Reading.{all-next, all-done}
 use Rattle.digits.proofs.all_digits.Statement.{statement}
 use Rattle.digits.proofs.all_digits.Tie as tie
 
 abbrev Inv-loop : tie.InvT-loop
-Inv-loop s i₀ i = (i ≤ length s) × (allDigits (drop i s) ≡ allDigits s)
+Inv-loop s all₀ i₀ all i = (i ≤ length s) × (all && allDigits (drop i s) ≡ allDigits s)
 
 abbrev μ-loop : tie.MeasureT-loop
-μ-loop s i₀ i = length s - i
+μ-loop s all₀ i₀ all i = length s - i
 
 loop-holds : tie.Need-loop-holds Inv-loop μ-loop
 loop-holds c = (search needs, refl)
@@ -24,12 +24,6 @@ shared-slice-read-is-digit c = omega arith
 is-digit-requires : tie.Need-is-digit-requires Inv-loop μ-loop
 is-digit-requires c κs = search needs
 
-returns : tie.Need-returns Inv-loop μ-loop
-returns c =
-    let s = c .before .before .before .before .before .before .args .s .now in
-    let l = c .before .before .before .before .loop in
-    sym (all-stop s (l .i) (omega arith) (was-false (c .before .is-digit .ensures) (c .if1 .taken))) ∙ l .inv .1
-
 add-i : tie.Need-add-i Inv-loop μ-loop
 add-i c = omega arith
 
@@ -38,15 +32,17 @@ loop-less c = omega arith
 
 loop-again : tie.Need-loop-again Inv-loop μ-loop
 loop-again c =
-    let s = c .before .before .before .before .before .before .args .s .now in
-    let l = c .before .before .before .before .loop in
-    (omega arith, sym (all-next s (l .i) (omega arith) (was-true (c .before .is-digit .ensures) (c .if1 .left))) ∙ l .inv .1)
+    let s = c .before .before .before .before .before .args .s .now in
+    let l = c .before .before .before .loop in (
+      omega arith,
+      rw (c .is-digit .ensures) (and-assoc (l .all) _ _ ∙ ap (λ (t : Bool). l .all && t) (sym (all-next s (l .i) (omega arith))) ∙ l .inv .1),
+    )
 
-returns-2 : tie.Need-returns-2 Inv-loop μ-loop
-returns-2 c =
+returns : tie.Need-returns Inv-loop μ-loop
+returns c =
     let s = c .before .before .before .args .s .now in
     let l = c .before .loop in
-    sym (all-done s (l .i) (omega arith)) ∙ l .inv .1
+    sym (and-true (l .all)) ∙ ap (λ (t : Bool). l .all && t) (sym (all-done s (l .i) (omega arith))) ∙ l .inv .1
 
 pub all-digits-spec : {M : Type 1} → statement M
 all-digits-spec =
@@ -57,8 +53,7 @@ all-digits-spec =
     loop-holds
     shared-slice-read-is-digit
     is-digit-requires
-    returns
     add-i
     loop-less
     loop-again
-    returns-2)
+    returns)

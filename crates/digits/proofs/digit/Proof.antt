@@ -1,0 +1,29 @@
+use Prim.Native.Nat.{_+_, _-_, _≤_, _<_}
+use mathlib.Core.Path.{_≡_, sym}
+use native.Mathlib.Omega.{arith}
+use borrow.Author.Needs.{needs}
+use Rattle.digits.specs.Digits.{isDigit, worthOf}
+use Rattle.digits.proofs.OneDigit.{below-sixteen, figure-worth, capital-worth}
+use Rattle.digits.proofs.digit.Statement.{statement}
+use Rattle.digits.proofs.digit.Tie as tie
+
+sub-result : tie.Need-sub-result
+sub-result c = figure-worth (c .before .args .b) (c .before .pre) (omega arith) .0
+
+returns : tie.Need-returns
+returns c =
+    let b = c .before .args .b in
+    let e = figure-worth b (c .before .pre) (omega arith) .1 in
+    (sym e, omega (arith, below-sixteen b))
+
+add-result : tie.Need-add-result
+add-result c = search needs
+
+returns-2 : tie.Need-returns-2
+returns-2 c =
+    let b = c .before .args .b in
+    let e = capital-worth b (c .before .pre) (omega arith) in
+    (sym e, omega (arith, below-sixteen b))
+
+pub digit-spec : {M : Type 1} → statement M
+digit-spec = tie.close (tie.spec sub-result returns add-result returns-2)
