@@ -7,8 +7,8 @@ SHELL := /bin/bash
 
 STRICT := -Wall -Wextra -Werror -pedantic -Iinclude
 ARCHIVE := target/staticlib/libboard.a
-# bytes of read-only data that the archive may have: what it has, and less than 256 more
-READ_ONLY := 1200
+# bytes of read-only data that the archive may have: it has 992, and the least jump table of a match of digits has 88
+READ_ONLY := 1024
 # host/plain.c under the archive's names, and under those that host/benchmark.c gives it where it is compiled at -O3
 AS_ARCHIVE := -Dplain_receive=cabinet_receive -Dplain_answer=cabinet_answer -Dplain_step_back=cabinet_step_back
 AS_O3 := -Dplain_receive=plain_o3_receive -Dplain_answer=plain_o3_answer -Dplain_step_back=plain_o3_step_back
@@ -97,19 +97,14 @@ host: tools archive
 	$(X86) target/host/play_vectors < crates/vectors/stdin | cmp - crates/vectors/stdout
 	echo "vectors: $$(wc -l < crates/vectors/stdout) calls as the second program says"
 
-# the archive's read-only data, in which no table of digits is (.ci/sections); host/plain.c has one, and must be refused. A table in the source would be
-# laid by code at each use, where no section shows it
+# the archive's sections, in which no table of digits is (.ci/sections); host/plain.c has one, and each of the rules that it breaks must say so
 sections: tools archive
 	.ci/sections $(ARCHIVE) $(READ_ONLY)
 	$(X86CC) -std=c99 -O2 $(STRICT) -c host/plain.c -o target/host/plain.o
-	if said=$$(.ci/sections target/host/plain.o $(READ_ONLY) 2>&1) || ! grep -q '^read-only data of [0-9]* bytes: [.]rodata' <<< "$$said"; then
-	    echo "the table of host/plain.c was not refused: $$said" >&2
-	    exit 1
-	fi
-	if grep -nE 'const [A-Z_]+: *\[[^;]*; *(2[3-9]|[3-9][0-9]|[0-9]{3,})\]' crates/*/src/*.rt; then
-	    echo "a table in the source" >&2
-	    exit 1
-	fi
+	if said=$$(.ci/sections target/host/plain.o 300 2>&1); then echo "the table of host/plain.c was not refused" >&2; exit 1; fi
+	for why in 'read-only data of [0-9]* bytes: [.]rodata' 'six rising bytes in a row' 'read-only data of [0-9]* bytes in all'; do
+	    grep -q "^$$why" <<< "$$said" || { echo "not said of host/plain.c: $$why" >&2; exit 1; }
+	done
 
 # drawn calls compared with the second program, every byte of every area after each; DIFFERENTIAL_CALLS=N and DIFFERENTIAL_SEED=N for others
 differential: tools archive

@@ -1,10 +1,10 @@
-use Prim.Native.Nat.{_+_, _-_, _≤_, _<_}
+use Prim.Native.Nat.{_-_, _≤_}
 use mathlib.Core.Path.{_≡_, refl, sym, ap, _∙_}
 use mathlib.Core.Bool.{Bool, _&&_, and-assoc, and-true}
 use native.Mathlib.Omega.{arith}
-use lib.ListN.{length, drop, getD}
+use lib.ListN.{length, drop}
 use borrow.Author.Needs.{needs}
-use Rattle.digits.specs.Digits.{allDigits, isDigit}
+use Rattle.digits.specs.Digits.{allDigits}
 use Rattle.digits.proofs.Reading.{all-next, all-done}
 use Rattle.digits.proofs.all_digits.Statement.{statement}
 use Rattle.digits.proofs.all_digits.Tie as tie

@@ -1,4 +1,3 @@
-use mathlib.Core.Path.{_∙_, sym}
 use borrow.Author.Needs.{needs}
 use Rattle.digits.specs.Digits.{isDigit}
 use Rattle.digits.proofs.is_digit.Statement.{statement}

@@ -1,7 +1,7 @@
-use Prim.Native.Nat.{_+_, _-_, _*_, _≤_, _<_}
-use mathlib.Core.Path.{_≡_, ap, _∙_}
+use Prim.Native.Nat.{_-_}
+use mathlib.Core.Path.{ap, _∙_}
 use native.Mathlib.Omega.{arith}
-use lib.ListN.{length, getD}
+use lib.ListN.{length}
 use borrow.Author.Needs.{needs}
 use Rattle.digits.specs.Digits.{worthOf}
 use Rattle.digits.proofs.Reading.{Read, read-first, read-next, read-done, read-fits, digit-at}
