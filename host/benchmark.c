@@ -34,11 +34,15 @@
 
 /* ---- the implementations ---- */
 
-/* plain.c's calls as they are named where it is compiled at -O3 (Makefile). */
-uint8_t plain_o3_receive(const uint8_t *, size_t, size_t *, size_t *, size_t *);
-uint16_t plain_o3_answer(const uint8_t *, size_t, uint8_t *, size_t, uint8_t *, size_t, uint8_t *, size_t,
-                         size_t *, const uint8_t *, size_t, uint8_t, uint8_t, uint8_t *, size_t, size_t *);
-uint16_t plain_o3_step_back(uint8_t *, size_t, uint8_t *, size_t, uint8_t *, size_t, size_t *);
+/* plain.c's calls again, under the names that they have where it is compiled at -O3 (Makefile). */
+#undef PLAIN_H
+#define plain_receive plain_o3_receive
+#define plain_answer plain_o3_answer
+#define plain_step_back plain_o3_step_back
+#include "plain.h"
+#undef plain_receive
+#undef plain_answer
+#undef plain_step_back
 
 struct calls {
     uint8_t (*receive)(const uint8_t *, size_t, size_t *, size_t *, size_t *);
@@ -355,7 +359,10 @@ static void print_head(void)
            dashes, dashes);
 }
 
-/* The ratio is to the faster of the two. `bytes` are those that the line carries for the call; a step back has none. */
+/*
+ * The ratio is to the faster of the two. `bytes` are those that the line carries for the call; a step back
+ * has none.
+ */
 static void print_row(const double best[MADE], size_t bytes)
 {
     char held[16] = "-", rate[24] = "-";

@@ -41,11 +41,19 @@ below-sixteen b = go (is b)
     go (other d e) = omega arith
 
 -- of a byte that is known to be a digit, one comparison tells its worth
-pub figure-worth : (b : ℕ) → isDigit b ≡ true → b < 65 → (48 ≤ b) × (worthOf b ≡ b - 48)
+pub least : (b : ℕ) → isDigit b ≡ true → 48 ≤ b
+least b a = go (is b)
+  where
+    go : Is b → 48 ≤ b
+    go (figure h k d e) = h
+    go (capital h k d e) = omega arith
+    go (other d e) = absurd (true≢false (sym a ∙ d))
+
+pub figure-worth : (b : ℕ) → isDigit b ≡ true → b < 65 → worthOf b ≡ b - 48
 figure-worth b a l = go (is b)
   where
-    go : Is b → (48 ≤ b) × (worthOf b ≡ b - 48)
-    go (figure h k d e) = (h, e)
+    go : Is b → worthOf b ≡ b - 48
+    go (figure h k d e) = e
     go (capital h k d e) = absurd (omega arith)
     go (other d e) = absurd (true≢false (sym a ∙ d))
 

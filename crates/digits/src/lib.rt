@@ -45,7 +45,7 @@ pub fn byte(n: u8) -> u8
     n + from
 }
 
-// Whether every byte is a digit. It looks at each, so that the compiler looks at many at once.
+// Whether every byte is a digit. Each is looked at, also behind one that is none: the compiler then tests many at once.
 pub fn all_digits(s: &[u8]) -> bool
     ensures { λ r. ⌜ r ≡ allDigits (now (s .entry)) ⌝ }
 {
@@ -80,7 +80,7 @@ pub fn number(s: &[u8]) -> u64
     n
 }
 
-// What a byte is worth that is known to be a digit: one comparison. In eight bytes, as the numbers that it goes into.
+// What a byte is worth that is known to be a digit: one comparison. Wide, so that `value` casts nothing on the way.
 fn digit(b: u64) -> u64
     requires { ⌜ isDigit b ≡ true ⌝ }
     ensures { λ r. ⌜ (r ≡ worthOf b) × (r < 16) ⌝ }

@@ -1,17 +1,17 @@
 use mathlib.Core.Path.{sym}
 use native.Mathlib.Omega.{arith}
 use borrow.Author.Needs.{needs}
-use Rattle.digits.proofs.OneDigit.{below-sixteen, figure-worth, capital-worth}
+use Rattle.digits.proofs.OneDigit.{below-sixteen, least, figure-worth, capital-worth}
 use Rattle.digits.proofs.digit.Statement.{statement}
 use Rattle.digits.proofs.digit.Tie as tie
 
 sub-result : tie.Need-sub-result
-sub-result c = figure-worth (c .before .args .b) (c .before .pre) (omega arith) .0
+sub-result c = least (c .before .args .b) (c .before .pre)
 
 returns : tie.Need-returns
 returns c =
     let b = c .before .args .b in
-    let e = figure-worth b (c .before .pre) (omega arith) .1 in
+    let e = figure-worth b (c .before .pre) (omega arith) in
     (sym e, omega (arith, below-sixteen b))
 
 add-result : tie.Need-add-result

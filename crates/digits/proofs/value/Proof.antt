@@ -30,7 +30,7 @@ digit-requires : tie.Need-digit-requires Inv-loop μ-loop
 digit-requires c κs =
     let l = c .before .before .before .loop in
     let a = c .before .before .before .before .before in
-    rw (c .wide .ensures .0) (digit-at (a .args .s .now) (l .i) (a .pre .1) (omega arith))
+    rw (c .wide .ensures .0) (digit-at (a .args .s .now) _ (a .pre .1) (omega arith))
 
 add-so-far : tie.Need-add-so-far Inv-loop μ-loop
 add-so-far c =
