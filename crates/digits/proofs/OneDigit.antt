@@ -40,7 +40,7 @@ below-sixteen b = go (is b)
     go (capital h k d e) = omega arith
     go (other d e) = omega arith
 
--- of a byte that is known to be a digit, one comparison tells its worth
+-- no digit stands below '0'
 pub least : (b : ℕ) → isDigit b ≡ true → 48 ≤ b
 least b a = go (is b)
   where
@@ -49,6 +49,7 @@ least b a = go (is b)
     go (capital h k d e) = omega arith
     go (other d e) = absurd (true≢false (sym a ∙ d))
 
+-- of a byte that is known to be a digit, one comparison tells its worth
 pub figure-worth : (b : ℕ) → isDigit b ≡ true → b < 65 → worthOf b ≡ b - 48
 figure-worth b a l = go (is b)
   where
