@@ -1,4 +1,4 @@
--- Document 01, "The areas": all that is handed over with a frame, and all that comes back.
+-- Document 01, "The areas", and document 02, request a: all that is handed over with a frame, and all that comes back.
 use Prim.Native.Nat.{ℕ}
 use mathlib.Core.Bool.{cond}
 use mathlib.Core.List.{List, []}
@@ -6,18 +6,22 @@ use lib.Dec.{eqb}
 use lib.ListN.{length, take, replicate}
 use Rattle.kinds.specs.declared.Held.{Held}
 use Rattle.kinds.specs.declared.Lengths.{Lengths}
-use Rattle.kinds.specs.Kinds.{pointsTag, columnsTag, pointsOf, columnsOf, kindOf, sizeOf, runOf}
+use Rattle.kinds.specs.declared.Firsts.{Firsts}
+use Rattle.kinds.specs.Kinds.{pointsTag, columnsTag, integersTag, flagsTag, pointsOf, columnsOf, integersOf, flagsOf, kindOf, sizeOf, runOf}
 use Rattle.journal.specs.Journal.{Entry, encodes, entriesIn, added, areaOf, lastEntry, others, puts, entryFor}
 use Rattle.axes.specs.declared.Axes.{Axes}
 use Rattle.calls.specs.declared.Settings.{Settings}
 use Rattle.calls.specs.declared.Kept.{Kept}
 
--- the areas that are used throughout, with the numbers that are kept beside them
+-- the areas that are used throughout, with the numbers that are kept beside them and the first numbers that settings give (02, a)
 pub record Areas : Type 0 where
   pub points : List ℕ
   pub columns : List ℕ
+  pub integers : List ℕ
+  pub flags : List ℕ
   pub journal : List ℕ
   pub kept : Kept
+  pub firsts : Firsts
 
 -- a frame, any bytes, with all else that is handed over with it but the areas
 pub record Sent : Type 0 where
@@ -37,35 +41,43 @@ pub record Outcome : Type 0 where
   pub areas : Areas
 
 -- areas, what is sent, and a call, as they are handed over
-abbrev pub areasOf : List ℕ → List ℕ → List ℕ → Kept → Areas
-areasOf points columns journal kept = record { points = points; columns = columns; journal = journal; kept = kept }
+abbrev pub areasOf : List ℕ → List ℕ → List ℕ → List ℕ → List ℕ → Kept → Firsts → Areas
+areasOf points columns integers flags journal kept firsts =
+    record { points = points; columns = columns; integers = integers; flags = flags; journal = journal; kept = kept; firsts = firsts }
 
 abbrev pub callOf : List ℕ → Axes → Settings → List ℕ → Areas → Call
 callOf frame axes settings reply areas = record { sent = record { frame = frame; axes = axes; settings = settings; reply = reply }; areas = areas }
 
--- "Fresh is all zero bytes and used length 0", on a board that holds so much, with a journal of so many bytes
+-- "Fresh is all zero bytes and used length 0", "zero when fresh" (02, a), on a board that holds so much, with a journal of so many bytes
 abbrev pub fresh : Held → ℕ → Areas
 fresh held size =
-    areasOf (replicate (sizeOf (pointsOf held)) 0) (replicate (sizeOf columnsOf) 0) (replicate size 0) (record { used = 0 })
+    areasOf (replicate (sizeOf (pointsOf held)) 0) (replicate (sizeOf columnsOf) 0) (replicate (sizeOf (integersOf held)) 0)
+    (replicate (sizeOf (flagsOf held)) 0) (replicate size 0) (record { used = 0 }) (held .firsts)
 
--- the lengths of the areas that things are held in
+-- the lengths of the areas that things are held in, and the first numbers
 abbrev pub lengthsOf : Areas → Lengths
-lengthsOf a = record { points = length (a .points); columns = length (a .columns) }
+lengthsOf a =
+    record { points = length (a .points); columns = length (a .columns); integers = length (a .integers); flags = length (a .flags); firsts = a .firsts }
 
 -- the area of a kind, by its tag
 abbrev pub areaIn : ℕ → Areas → List ℕ
-areaIn tag a = cond (eqb tag pointsTag) (a .points) (cond (eqb tag columnsTag) (a .columns) [])
+areaIn tag a =
+    cond (eqb tag pointsTag) (a .points)
+    (cond (eqb tag columnsTag) (a .columns) (cond (eqb tag integersTag) (a .integers) (cond (eqb tag flagsTag) (a .flags) [])))
 
 -- an entry's bytes put into the area of its kind
 abbrev pub putIn : Held → Entry → Areas → Areas
-putIn held e a = areasOf (puts (pointsOf held) e (a .points)) (puts columnsOf e (a .columns)) (a .journal) (a .kept)
+putIn held e a =
+    areasOf (puts (pointsOf held) e (a .points)) (puts columnsOf e (a .columns)) (puts (integersOf held) e (a .integers))
+    (puts (flagsOf held) e (a .flags)) (a .journal) (a .kept) (a .firsts)
 
 -- the journal's entries, oldest first, and the areas with other entries in it ("bytes beyond the used length are 00")
 abbrev pub entriesOf : Held → Areas → List Entry
 entriesOf held a = entriesIn held 0 (take (a .kept .used) (a .journal))
 
 abbrev pub withEntries : List Entry → Areas → Areas
-withEntries es a = areasOf (a .points) (a .columns) (areaOf (length (a .journal)) es) (record { used = length (encodes es) })
+withEntries es a =
+    areasOf (a .points) (a .columns) (a .integers) (a .flags) (areaOf (length (a .journal)) es) (record { used = length (encodes es) }) (a .firsts)
 
 -- an accepted write of a kind's run: "one entry" with "the old bytes of what was named" is added, the new bytes are put in
 abbrev pub oldEntry : Held → ℕ → ℕ → ℕ → Areas → Entry

@@ -1,4 +1,4 @@
--- Document 01, "Journal". A journal is a list of entries, oldest first; its bytes are given by `encodes`.
+-- Document 01, "Journal", and document 02, request a. A journal is a list of entries, oldest first; its bytes are given by `encodes`.
 use Prim.Native.Nat.{ℕ, zero, suc, pred, _+_, _-_, _/_, _%_}
 use mathlib.Core.Bool.{Bool, true, false, cond, _&&_}
 use mathlib.Core.List.{List, [], _∷_, _++_}
@@ -9,7 +9,7 @@ use Rattle.kinds.specs.declared.Held.{Held}
 use Rattle.areas.specs.Bytes.{twoOf, twoAt}
 use Rattle.kinds.specs.Kinds.{kindOf, holds, put}
 
--- "one entry: tag (50H points, 53H columns), [..] start number (2), the old bytes of what was named"
+-- "one entry: tag (50H points, 53H columns), [..] start number (2), the old bytes of what was named"; "old values as in the other entries" (02, a)
 pub record Entry : Type 0 where
   pub tag : ℕ
   pub start : ℕ
@@ -23,7 +23,7 @@ unfoldable pub encodes : List Entry → List ℕ
 encodes [] = []
 encodes (e ∷ es) = encode e ++ encodes es
 
--- "Well-formed: p at least 1, c 1 to 255, all numbers held": so many old bytes from a start number on, of one kind
+-- "Well-formed: p at least 1, c 1 to 255, all numbers held": so many old bytes from a start number on, of one kind; at most what one write can name
 unfoldable pub entryFits : Kind → ℕ → ℕ → Bool
 entryFits k start size =
     eqb (size % k .unit) 0

@@ -19,7 +19,7 @@ ghost use Rattle.journal.specs.Laws.{Holds, Good, Stands};
 
 // So many old bytes from a start number on make a well-formed entry of a kind.
 fn fits(k: Kind, start: usize, size: usize) -> bool
-    requires { ⌜ (0 < k .unit) × (start < 65536) × (size < 65536) × (k .first + k .held < 65536) ⌝ }
+    requires { ⌜ (0 < k .unit) × (start < 65536) × (size < 65536) × (k .first + k .held ≤ 65536) ⌝ }
     ensures { λ r. ⌜ r ≡ entryFits k start size ⌝ }
 {
     let unit = k.unit;

@@ -13,28 +13,44 @@ use Rattle.digits.proofs.Bools.{either}
 use Rattle.digits.proofs.Inverse.{and-left, and-right}
 use Rattle.kinds.specs.declared.Kind.{Kind}
 use Rattle.kinds.specs.declared.Held.{Held}
-use Rattle.kinds.specs.Kinds.{pointsTag, columnsTag, pointsOf, columnsOf, kindOf, Sound, holds, runOf, placeOf, sizeOf}
+use Rattle.kinds.specs.Kinds.{pointsTag, columnsTag, integersTag, flagsTag, pointsOf, columnsOf, integersOf, flagsOf, kindOf, Sound, holds, runOf, placeOf, sizeOf}
 
 -- a kind's numbers and its area are small
 pub record Sized (k : Kind) : Type 0 where
   pub some-bytes : 0 < k .unit
   pub few-bytes : k .unit ≤ 40
-  pub numbers : k .first + k .held < 65536
+  pub numbers : k .first + k .held ≤ 65536
   pub small : sizeOf k < 65530
 
-pub sized : (h : Held) (tag : ℕ) → Sound h → Sized (kindOf h tag)
+-- what is so of each kind is so of a tag's
+pub each-kind :
+    (P : Kind → Type 0) (h : Held) (tag : ℕ)
+    → (tag ≡ pointsTag → P (pointsOf h)) → (tag ≡ columnsTag → P columnsOf) → (tag ≡ integersTag → P (integersOf h)) → (tag ≡ flagsTag → P (flagsOf h))
+    → P (record { tag = tag; first = 0; unit = 1; held = 0; most = 0 }) → P (kindOf h tag)
 unfolding kindOf
+each-kind P h tag points columns integers flags none =
+    either P (eqb tag pointsTag) (λ e. points (eqb-true _ _ e))
+    (λ _. either P (eqb tag columnsTag) (λ e. columns (eqb-true _ _ e))
+    (λ _. either P (eqb tag integersTag) (λ e. integers (eqb-true _ _ e)) (λ _. either P (eqb tag flagsTag) (λ e. flags (eqb-true _ _ e)) (λ _. none))))
+
+pub sized : (h : Held) (tag : ℕ) → Sound h → Sized (kindOf h tag)
 sized h tag s =
-    either Sized (eqb tag pointsTag) (λ _. record { some-bytes = omega arith; few-bytes = omega arith; numbers = omega (arith, s .points); small = omega (arith, s .points) })
-    (λ _. either Sized (eqb tag columnsTag) (λ _. record { some-bytes = omega arith; few-bytes = omega arith; numbers = omega arith; small = omega arith })
-    (λ _. record { some-bytes = omega arith; few-bytes = omega arith; numbers = omega arith; small = omega arith }))
+    each-kind Sized h tag
+    (λ _. record { some-bytes = omega arith; few-bytes = omega arith; numbers = omega (arith, s .points); small = omega (arith, s .points) })
+    (λ _. record { some-bytes = omega arith; few-bytes = omega arith; numbers = omega arith; small = omega arith })
+    (λ _. record { some-bytes = omega arith; few-bytes = omega arith; numbers = omega (arith, s .integers); small = omega arith })
+    (λ _. record { some-bytes = omega arith; few-bytes = omega arith; numbers = omega (arith, s .flags); small = omega arith })
+    (record { some-bytes = omega arith; few-bytes = omega arith; numbers = omega arith; small = omega arith })
+
+-- an entry of a kind fits into the least journal
+pub entry-room : (h : Held) (tag : ℕ) → 5 + kindOf h tag .most * kindOf h tag .unit ≤ 40 * h .points + 500
+entry-room h tag =
+    each-kind (λ (k : Kind). 5 + k .most * k .unit ≤ 40 * h .points + 500) h tag (λ _. omega arith) (λ _. omega arith) (λ _. omega arith)
+    (λ _. omega arith) (omega arith)
 
 -- a tag's kind has that tag
 pub tag-of : (h : Held) (tag : ℕ) → kindOf h tag .tag ≡ tag
-unfolding kindOf
-tag-of h tag =
-    either (λ (k : Kind). k .tag ≡ tag) (eqb tag pointsTag) (λ e. sym (eqb-true _ _ e))
-    (λ _. either (λ (k : Kind). k .tag ≡ tag) (eqb tag columnsTag) (λ e. sym (eqb-true _ _ e)) (λ _. refl))
+tag-of h tag = each-kind (λ (k : Kind). k .tag ≡ tag) h tag sym sym sym sym refl
 
 pub own-kind : (h : Held) (tag : ℕ) → kindOf h (kindOf h tag .tag) ≡ kindOf h tag
 own-kind h tag = ap (kindOf h) (tag-of h tag)
@@ -47,6 +63,14 @@ pub kind-columns : (h : Held) → kindOf h columnsTag ≡ columnsOf
 unfolding kindOf
 kind-columns h = refl
 
+pub kind-integers : (h : Held) → kindOf h integersTag ≡ integersOf h
+unfolding kindOf
+kind-integers h = refl
+
+pub kind-flags : (h : Held) → kindOf h flagsTag ≡ flagsOf h
+unfolding kindOf
+kind-flags h = refl
+
 module _ (k : Kind) (start count : ℕ) (h : holds k start count ≡ true) where
   pub within : (k .first ≤ start) × (start + count ≤ k .first + k .held)
   unfolding holds
@@ -54,6 +78,10 @@ module _ (k : Kind) (start count : ℕ) (h : holds k start count ≡ true) where
     leb-true _ _ (and-left (leb (k .first) start) (leb (start + count) (k .first + k .held)) h),
     leb-true _ _ (and-right (leb (k .first) start) (leb (start + count) (k .first + k .held)) h),
   )
+
+  -- no more are named than are held
+  pub few : count ≤ k .held
+  few = let w = within in omega (arith, w .0, w .1)
 
   -- a held run lies in its area
   pub room : placeOf k start + count * k .unit ≤ sizeOf k

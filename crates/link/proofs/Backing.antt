@@ -9,7 +9,7 @@ use lib.ListN.{length, take, drop, replicate}
 use borrow.Author.Tests.{eqb-true, eqb-false}
 use Rattle.kinds.specs.declared.Kind.{Kind}
 use Rattle.kinds.specs.declared.Held.{Held}
-use Rattle.kinds.specs.Kinds.{Sound, pointsTag, columnsTag, pointsOf, columnsOf, kindOf, heldIn, sizeOf}
+use Rattle.kinds.specs.Kinds.{Sound, pointsOf, columnsOf, integersOf, flagsOf, kindOf, heldIn, sizeOf}
 use Rattle.kinds.proofs.Known.{kind-points, kind-columns, tag-of, sized}
 use Rattle.journal.specs.Journal.{Entry, encodes, entriesIn, whole, areaOf, lastEntry, others, entryFits, puts, entryFor}
 use Rattle.journal.specs.Laws.{Holds, Good, Stands}
@@ -21,7 +21,7 @@ use Rattle.calls.specs.declared.Kept.{Kept}
 use Rattle.calls.specs.Calls.{Areas, Outcome, areasOf, lengthsOf, steppedBack}
 use Rattle.refusals.specs.Refusals.{backRows, backRefusalOf}
 use Rattle.refusals.proofs.Rows.{AreasPass, areas-pass, back-rows}
-use Rattle.refusals.proofs.Tested.{Points, Journal, points-fit, journal-fits, sound}
+use Rattle.refusals.proofs.Tested.{Points, Variables, Journal, points-fit, variables-fit, journal-fits, sound}
 use Rattle.link.specs.declared.Back.{Back}
 use Rattle.link.specs.Answer.{unanswered, backOf}
 use Rattle.link.specs.Contract.{StepsBack}
@@ -36,6 +36,7 @@ back-first a = refl
 pub record CanStepBack (a : Areas) : Type 0 where
   pub points : Points (length (a .points))
   pub columns : length (a .columns) ≡ 700
+  pub variables : Variables (length (a .integers)) (length (a .flags)) (a .firsts)
   pub journal : Journal (heldIn (lengthsOf a)) (a .journal) (a .kept .used)
   pub used : 0 < a .kept .used
   pub sound-held : Sound (heldIn (lengthsOf a))
@@ -50,9 +51,10 @@ can-step-back a e =
     record {
       points = points-fit (length (a .points)) (p .0 .points);
       columns = eqb-true _ _ (p .0 .columns);
+      variables = variables-fit (length (a .integers)) (length (a .flags)) (a .firsts) (p .0 .variables);
       journal = journal-fits (heldIn (lengthsOf a)) (a .journal) (a .kept .used) (p .0 .journal-fits);
       used = some-used (a .kept .used) (p .1);
-      sound-held = sound (lengthsOf a) (p .0 .points);
+      sound-held = sound (lengthsOf a) (p .0 .points) (p .0 .variables);
     }
 
 -- a refused one
@@ -91,21 +93,32 @@ module _ (a : Areas) (z : backRefusalOf a ≡ 0) {h : Held} (e : h ≡ heldIn (l
     abbrev old : List ℕ
     old = take (a .kept .used - (l .at + 5)) (drop (l .at + 5) (a .journal))
 
-    pub put-needs : (Sound h × Good h (entryFor (l .tag) (l .start) old)) × ((length (a .points) ≡ sizeOf (pointsOf h)) × (length (a .columns) ≡ sizeOf columnsOf))
+    pub put-needs : (Sound h × Good h (entryFor (l .tag) (l .start) old))
+        × ((length (a .points) ≡ sizeOf (pointsOf h)) × (length (a .columns) ≡ sizeOf columnsOf) × (length (a .integers) ≡ sizeOf (integersOf h))
+        × (length (a .flags) ≡ sizeOf (flagsOf h)))
     put-needs = (
       (rw e (ok .sound-held), subst (Good h) (sym (s .entry)) (s .good)),
-      (rw e (omega (arith, ok .points .whole-slots)), ok .columns),
+      (rw e (omega (arith, ok .points .whole-slots)), ok .columns, ok .variables .integers-long, ok .variables .flags-long),
     )
 
-    pub stepped : (bytes : Bytes (a .journal)) (r : Back) (points′ columns′ journal′ : List ℕ) → r .number ≡ 0 → r .kept .used ≡ l .at
-        → points′ ≡ puts (pointsOf h) (entryFor (l .tag) (l .start) old) (a .points) → columns′ ≡ puts columnsOf (entryFor (l .tag) (l .start) old) (a .columns)
-        → journal′ ≡ take (l .at) (a .journal) ++ replicate (length (a .journal) - l .at) 0 → StepsBack a r (areasOf points′ columns′ journal′ (r .kept))
-    stepped bytes r points′ columns′ journal′ n u p c j =
+    -- the last entry, as it was found
+    entry-is : entryFor (l .tag) (l .start) old ≡ lastEntry (entriesIn (heldIn (lengthsOf a)) 0 (take (a .kept .used) (a .journal)))
+    entry-is = s .entry ∙ ap (λ (x : Held). lastEntry (entriesIn x 0 (take (a .kept .used) (a .journal)))) e
+
+    pub stepped : (bytes : Bytes (a .journal)) (r : Back) (points′ columns′ integers′ flags′ journal′ : List ℕ) → r .number ≡ 0 → r .kept .used ≡ l .at
+        → (points′ ≡ puts (pointsOf h) (entryFor (l .tag) (l .start) old) (a .points))
+        × (columns′ ≡ puts columnsOf (entryFor (l .tag) (l .start) old) (a .columns))
+        × (integers′ ≡ puts (integersOf h) (entryFor (l .tag) (l .start) old) (a .integers))
+        × (flags′ ≡ puts (flagsOf h) (entryFor (l .tag) (l .start) old) (a .flags))
+        → journal′ ≡ take (l .at) (a .journal) ++ replicate (length (a .journal) - l .at) 0
+        → StepsBack a r (areasOf points′ columns′ integers′ flags′ journal′ (r .kept) (a .firsts))
+    stepped bytes r points′ columns′ integers′ flags′ journal′ n u p j =
         let q = accepted-back a z in
         let w = holds-back h (a .journal) (a .kept .used) l bytes (ok .journal .within) (find-needs .1) s journal′ j in
         let same =
-        same-areas (same-puts (a .points) p (ap pointsOf e) (s .entry ∙ ap (λ (x : Held). lastEntry (entriesIn x 0 (take (a .kept .used) (a .journal)))) e))
-        (same-puts (a .columns) c refl (s .entry ∙ ap (λ (x : Held). lastEntry (entriesIn x 0 (take (a .kept .used) (a .journal)))) e))
+        same-areas (same-puts (a .points) (p .0) (ap pointsOf e) entry-is) (same-puts (a .columns) (p .1) refl entry-is)
+        (same-puts (a .integers) (p .2) (ap integersOf e) entry-is)
+        (same-puts (a .flags) (p .3) (ap flagsOf e) entry-is)
         (w .bytes ∙ ap (λ (x : Held). areaOf (length (a .journal)) (others (entriesIn x 0 (take (a .kept .used) (a .journal))))) e)
         (u ∙ w .used ∙ ap (λ (x : Held). length (encodes (others (entriesIn x 0 (take (a .kept .used) (a .journal)))))) e)
         ∙ sym (ap (λ (o : Outcome). o .areas) q) in

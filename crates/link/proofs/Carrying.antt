@@ -2,9 +2,10 @@
 use Prim.Native.Nat.{ℕ, zero, suc, _+_, _-_, _*_, _/_, _≤_, _<_, _^_}
 use mathlib.Core.Path.{_≡_, refl, sym, ap, _∙_, subst}
 use mathlib.Core.Bool.{Bool, true, false, cond, not, _&&_}
-use mathlib.Core.List.{List}
+use mathlib.Core.Logic.{_⊎_, inl, inr}
+use mathlib.Core.List.{List, []}
 use native.Mathlib.Omega.{arith}
-use native.Mathlib.Nat.{pow-le-pow-right}
+use native.Mathlib.Nat.{mul-le-mul-right}
 use lib.Dec.{eqb, leb}
 use lib.ListN.{length, take, drop, length-append, length-drop, length-replicate}
 use lib.Seq.{length-take-le}
@@ -15,25 +16,25 @@ use Rattle.digits.proofs.Bools.{was-not}
 use Rattle.frames.specs.Frame.{contentIn}
 use Rattle.kinds.specs.declared.Kind.{Kind}
 use Rattle.kinds.specs.declared.Held.{Held}
-use Rattle.kinds.specs.Kinds.{Sound, pointsTag, columnsTag, pointsOf, columnsOf, kindOf, heldIn, holds, sizeOf}
+use Rattle.kinds.specs.Kinds.{Sound, pointsTag, columnsTag, integersTag, flagsTag, pointsOf, columnsOf, integersOf, flagsOf, kindOf, heldIn, holds, sizeOf}
 use Rattle.pairs.specs.Pairs.{bytesIn}
-use Rattle.kinds.proofs.Known.{kind-points, kind-columns, within}
+use Rattle.kinds.proofs.Known.{kind-points, kind-columns, kind-integers, kind-flags, entry-room, few}
 use Rattle.pairs.proofs.Paired.{length-bytesIn}
 use Rattle.points.specs.Point.{lengthOf, pointOf, slotOf, slotsOf}
 use Rattle.points.proofs.Slotted.{length-pointSlot}
-use Rattle.table.specs.declared.Follows.the-variants.{Points as PointsFollow, RunBytes}
+use Rattle.table.specs.declared.Follows.the-variants.{RunBytes}
 use Rattle.table.specs.declared.Action.{Action}
-use Rattle.table.specs.declared.Action.the-variants.{SayBack, CountPoints, ListPoints, ReadRun, AxisStatus, WritePoints, ClearRun, ChangeRun}
+use Rattle.table.specs.declared.Action.the-variants.{SayBack, CountPoints, ListPoints, ReadRun, AxisStatus, WritePoints, ClearRun, ChangeRun, ShowFlags, SetFlag}
 use Rattle.table.specs.declared.Message.{Message}
 use Rattle.messages.specs.declared.Asked.the-variants.{Order}
 use Rattle.table.specs.Table.{messageOf, fieldsOf, startIn, countIn, restIn, followsRight, anyBytes, Narrow}
 use Rattle.messages.specs.Asked.{askedOf}
 use Rattle.messages.proofs.Judged.{Right, Told, told, written}
 use Rattle.messages.proofs.Shapes.{Shape, Shaped, shaped}
-use Rattle.calls.specs.Calls.{Call, lengthsOf}
+use Rattle.calls.specs.Calls.{Call, lengthsOf, areaIn}
 use Rattle.refusals.specs.Refusals.{silentOf}
 use Rattle.refusals.proofs.Rows.{CallPassed, call-passed}
-use Rattle.refusals.proofs.Tested.{Points, Journal, points-fit, journal-fits, shaped-long, sound}
+use Rattle.refusals.proofs.Tested.{Points, Variables, Journal, points-fit, variables-fit, journal-fits, shaped-long, sound}
 use Rattle.link.specs.Answer.{held, asked, rest, writes, newBytes}
 
 -- so many slots are forty bytes each
@@ -49,6 +50,7 @@ pub record Fine (c : Call) : Type 0 where
   pub reply-long : 1024 ≤ length (c .sent .reply)
   pub points : Points (length (c .areas .points))
   pub columns : length (c .areas .columns) ≡ 700
+  pub variables : Variables (length (c .areas .integers)) (length (c .areas .flags)) (c .areas .firsts)
   pub journal : Journal (held c) (c .areas .journal) (c .areas .kept .used)
   pub frame-long : 10 ≤ length (c .sent .frame)
   pub sound-held : Sound (held c)
@@ -60,10 +62,28 @@ fine c e =
       reply-long = ltb-false _ _ (p .reply-long);
       points = points-fit (length (c .areas .points)) (p .areas .points);
       columns = eqb-true _ _ (p .areas .columns);
+      variables = variables-fit (length (c .areas .integers)) (length (c .areas .flags)) (c .areas .firsts) (p .areas .variables);
       journal = journal-fits (held c) (c .areas .journal) (c .areas .kept .used) (p .areas .journal-fits);
       frame-long = shaped-long (c .sent .frame) (p .shape);
-      sound-held = sound (lengthsOf (c .areas)) (p .areas .points);
+      sound-held = sound (lengthsOf (c .areas)) (p .areas .points) (p .areas .variables);
     }
+
+-- the area of each kind is as long as it should be
+pub area-long : (c : Call) (tag : ℕ) → Fine c → length (areaIn tag (c .areas)) ≡ sizeOf (kindOf (held c) tag)
+unfolding kindOf
+area-long c tag f = go (eqb tag pointsTag) (eqb tag columnsTag) (eqb tag integersTag) (eqb tag flagsTag)
+  where
+    go : (p q r s : Bool)
+        → length (cond p (c .areas .points) (cond q (c .areas .columns) (cond r (c .areas .integers) (cond s (c .areas .flags) []))))
+        ≡ sizeOf
+        (cond p (pointsOf (held c))
+        (cond q columnsOf
+        (cond r (integersOf (held c)) (cond s (flagsOf (held c)) (record { tag = tag; first = 0; unit = 1; held = 0; most = 0 })))))
+    go true q r s = omega (arith, f .points .whole-slots)
+    go false true r s = f .columns
+    go false false true s = f .variables .integers-long
+    go false false false true = f .variables .flags-long
+    go false false false false = refl
 
 -- a content is ten bytes shorter than its frame
 pub content-long : (frame : List ℕ) → 10 ≤ length frame → length (contentIn frame) ≡ length frame - 10
@@ -81,6 +101,7 @@ pub record Judged (h : Held) (content : List ℕ) (m : Message) (start count : �
   pub some : 1 ≤ m .count → 1 ≤ count
   pub held-all : 1 ≤ m .start → holds (kindOf h (m .tag)) start count ≡ true
   pub few : m .count ≡ 2 → count ≤ 255
+  pub alone : m .count ≡ 0 → count ≡ 1
 
 one : (k : ℕ) → (k ≡ 0 → ⊥) → 1 ≤ k
 one zero n = absurd (n refl)
@@ -113,6 +134,7 @@ judged-so h fitted frame m start count e =
           let q = was-not (second (leb 1 (m .start)) (not (holds (kindOf h (m .tag)) (startIn m s) (countIn m s))) (le-leb _ _ a) (r .held-all)) in
           subst (λ (x : ℕ). holds (kindOf h (m .tag)) x count ≡ true) (sym (t .start-is)) (subst (λ (k : ℕ). holds (kindOf h (m .tag)) (startIn m s) k ≡ true) (sym (t .count-is)) q);
       few = λ a. few-digits m s a room (t .count-is);
+      alone = λ a. t .count-is ∙ rw a;
     }
   where
     few-digits : (m : Message) (s : List ℕ) {k : ℕ} → m .count ≡ 2 → fieldsOf m ≤ length s → k ≡ countIn m s → k ≤ 255
@@ -120,35 +142,20 @@ judged-so h fitted frame m start count e =
         let w = take (m .count) (drop (m .program + m .start) s) in
         let l : length w ≡ 2 = length-take-le (m .count) (drop (m .program + m .start) s) (simp length-drop (omega arith)) ∙ a in
         let b : numberOf w < 16 ^ 2 = inverse 2 .bound w l in
-        omega (arith, e)
+        let q : countIn m s ≡ numberOf w = rw a in
+        omega (arith, e, q)
 
 -- what a message's kind holds, in one look
 pub record Named (h : Held) (tag start count : ℕ) : Type 0 where
   pub some : 1 ≤ count
   pub held-all : holds (kindOf h tag) start count ≡ true
   pub named : count ≤ kindOf h tag .most
-  pub few-bytes : 5 + count * kindOf h tag .unit ≤ 40 * h .points + 300
+  pub few-bytes : 5 + count * kindOf h tag .unit ≤ 40 * h .points + 500
 
-named-points : (h : Held) (start count : ℕ) → 1 ≤ count → holds (kindOf h pointsTag) start count ≡ true → Named h pointsTag start count
-named-points h start count o e =
-    let k = kind-points h in
-    let w = within (pointsOf h) start count (rw k at e) in
-    record {
-      some = o;
-      held-all = e;
-      named = rw k (omega (arith, w .0, w .1));
-      few-bytes = rw k (omega (arith, w .0, w .1));
-    }
-
-named-columns : (h : Held) (start count : ℕ) → 1 ≤ count → count ≤ 255 → holds (kindOf h columnsTag) start count ≡ true → Named h columnsTag start count
-named-columns h start count o f e =
-    let k = kind-columns h in
-    record {
-      some = o;
-      held-all = e;
-      named = rw k (omega arith);
-      few-bytes = rw k (omega arith);
-    }
+named-so : (h : Held) (tag start count : ℕ) → 1 ≤ count → holds (kindOf h tag) start count ≡ true → count ≤ kindOf h tag .most → Named h tag start count
+named-so h tag start count o e m =
+    let u : count * kindOf h tag .unit ≤ kindOf h tag .most * kindOf h tag .unit = mul-le-mul-right (kindOf h tag .unit) m in
+    record { some = o; held-all = e; named = m; few-bytes = omega (arith, u, entry-room h tag) }
 
 -- a write's run, whatever the message: named, and as many bytes as it has
 pub record Writable (h : Held) (content : List ℕ) (m : Message) (start count : ℕ) : Type 0 where
@@ -161,11 +168,21 @@ not-so e = absurd (let z : _≡_ {A = ℕ} 0 1 = ap (λ (b : Bool). cond b 1 0) 
 pub writable : (h : Held) (content : List ℕ) (m : Message) (start count : ℕ) → Judged h content m start count → writes (m .does) ≡ true → Writable h content m start count
 writable h content m start count j w = go (m .does) refl (j .shape)
   where
-    u : ℕ
-    u = kindOf h (m .tag) .unit
+    -- of points and of integers a write can name all
+    all : {k : Kind} → kindOf h (m .tag) ≡ k → k .held ≡ k .most → 1 ≤ m .start → count ≤ kindOf h (m .tag) .most
+    all e f s = let n = few (kindOf h (m .tag)) start count (j .held-all s) in omega (arith, n, ap (λ (x : Kind). x .held) e, ap (λ (x : Kind). x .most) e, f)
 
     points : m .tag ≡ pointsTag → 1 ≤ m .start → 1 ≤ m .count → Named h (m .tag) start count
-    points t s k = subst (λ (x : ℕ). Named h x start count) (sym t) (named-points h start count (j .some k) (subst (λ (x : ℕ). holds (kindOf h x) start count ≡ true) t (j .held-all s)))
+    points t s k = named-so h (m .tag) start count (j .some k) (j .held-all s) (all (ap (kindOf h) t ∙ kind-points h) refl s)
+
+    -- of columns 255, since the count has two digits
+    run-most : (m .tag ≡ columnsTag) ⊎ (m .tag ≡ integersTag) → 1 ≤ m .start → m .count ≡ 2 → count ≤ kindOf h (m .tag) .most
+    run-most (inl t) s k = rw (ap (kindOf h) t ∙ kind-columns h) (j .few k)
+    run-most (inr t) s k = all (ap (kindOf h) t ∙ kind-integers h) refl s
+
+    long : {n : ℕ} (a : Action) → m .does ≡ a → length (newBytes a (kindOf h (m .tag) .unit) count (restIn m content)) ≡ n
+        → length (newBytes (m .does) (kindOf h (m .tag) .unit) count (restIn m content)) ≡ n
+    long a e f = ap (λ (b : Action). length (newBytes b (kindOf h (m .tag) .unit) count (restIn m content))) e ∙ f
 
     go : (a : Action) → m .does ≡ a → Shape a m → Writable h content m start count
     go SayBack e x = not-so (ap writes (sym e) ∙ w)
@@ -173,25 +190,24 @@ writable h content m start count j w = go (m .does) refl (j .shape)
     go ListPoints e x = not-so (ap writes (sym e) ∙ w)
     go ReadRun e x = not-so (ap writes (sym e) ∙ w)
     go AxisStatus e x = not-so (ap writes (sym e) ∙ w)
+    go ShowFlags e x = not-so (ap writes (sym e) ∙ w)
     go WritePoints e x =
         record {
           run = points (x .0 .0) (x .0 .1) (x .0 .2);
-          long =
-              ap (λ (b : Action). length (newBytes b (kindOf h (m .tag) .unit) count (restIn m content))) e ∙ slots-long count (restIn m content)
-              ∙ ap (λ (k : Kind). count * k .unit) (sym (kind-points h) ∙ ap (kindOf h) (sym (x .0 .0)));
+          long = long WritePoints e (slots-long count (restIn m content) ∙ ap (λ (k : Kind). count * k .unit) (sym (kind-points h) ∙ ap (kindOf h) (sym (x .0 .0))));
         }
     go ClearRun e x =
-        record {
-          run = points (x .0) (x .1) (x .2);
-          long =
-              ap (λ (b : Action). length (newBytes b (kindOf h (m .tag) .unit) count (restIn m content))) e
-              ∙ length-replicate (count * kindOf h (m .tag) .unit) 0;
-        }
+        record { run = points (x .0) (x .1) (x .2); long = long ClearRun e (length-replicate (count * kindOf h (m .tag) .unit) 0) }
     go ChangeRun e x =
-        let f : followsRight RunBytes (kindOf h (m .tag) .unit) count (restIn m content) ≡ true = rw (x .2) at (j .follows) in
+        let f : followsRight RunBytes (kindOf h (m .tag) .unit) count (restIn m content) ≡ true = rw (x .1) at (j .follows) in
         record {
-          run = subst (λ (t : ℕ). Named h t start count) (sym (x .0 .0)) (named-columns h start count (j .some (x .0 .2)) (j .few (x .1)) (subst (λ (t : ℕ). holds (kindOf h t) start count ≡ true) (x .0 .0) (j .held-all (x .0 .1))));
-          long =
-              ap (λ (b : Action). length (newBytes b (kindOf h (m .tag) .unit) count (restIn m content))) e
-              ∙ length-bytesIn (count * kindOf h (m .tag) .unit) (restIn m content) (eqb-true _ _ f);
+          run = named-so h (m .tag) start count (j .some (omega (arith, x .0 .2))) (j .held-all (x .0 .1)) (run-most (x .0 .0) (x .0 .1) (x .0 .2));
+          long = long ChangeRun e (length-bytesIn (count * kindOf h (m .tag) .unit) (restIn m content) (eqb-true _ _ f));
+        }
+    go SetFlag e x =
+        let k = ap (kindOf h) (x .0) ∙ kind-flags h in
+        let o = j .alone (x .2) in
+        record {
+          run = named-so h (m .tag) start count (omega (arith, o)) (j .held-all (x .1)) (rw k (omega (arith, o)));
+          long = long SetFlag e (rw (o, k));
         }

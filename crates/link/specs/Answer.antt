@@ -1,7 +1,7 @@
--- Document 01, "Each message", "Refusal numbers" and "Journal": what an answer and a step back leave.
+-- Document 01, "Each message", "Refusal numbers" and "Journal", and document 02, request a: what an answer and a step back leave.
 use Prim.Native.Nat.{ℕ, _*_}
 use mathlib.Core.Bool.{Bool, true, false, cond}
-use mathlib.Core.List.{List, []}
+use mathlib.Core.List.{List, [], _∷_}
 use lib.Bits.{bitAnd}
 use lib.Dec.{eqb}
 use lib.ListN.{drop, replicate}
@@ -12,13 +12,13 @@ use Rattle.kinds.specs.Kinds.{pointsOf, kindOf, heldIn, placeOf}
 use Rattle.pairs.specs.Pairs.{bytesIn}
 use Rattle.points.specs.Point.{slotsOf}
 use Rattle.table.specs.declared.Action.{Action}
-use Rattle.table.specs.declared.Action.the-variants.{SayBack, CountPoints, ListPoints, ReadRun, AxisStatus, WritePoints, ClearRun, ChangeRun}
+use Rattle.table.specs.declared.Action.the-variants.{SayBack, CountPoints, ListPoints, ReadRun, AxisStatus, WritePoints, ClearRun, ChangeRun, ShowFlags, SetFlag}
 use Rattle.table.specs.declared.Message.{Message}
 use Rattle.messages.specs.declared.Asked.{Asked}
 use Rattle.messages.specs.declared.Asked.the-variants.{Refused, Order}
 use Rattle.table.specs.Table.{restIn}
 use Rattle.messages.specs.Asked.{askedOf, numberGiven}
-use Rattle.queries.specs.Replies.{headOf, sameText, countText, listText, runText, axesText}
+use Rattle.queries.specs.Replies.{headOf, sameText, countText, listText, runText, flagsText, axesText}
 use Rattle.calls.specs.Calls.{Areas, Call, Outcome, lengthsOf, areaIn, written, steppedBack}
 use Rattle.refusals.specs.Refusals.{silentOf, backRefusalOf}
 
@@ -43,6 +43,8 @@ writes AxisStatus = false
 writes WritePoints = true
 writes ClearRun = true
 writes ChangeRun = true
+writes ShowFlags = false
+writes SetFlag = true
 
 -- the bytes that a write stores; a query stores none
 abbrev pub newBytes : Action → ℕ → ℕ → List ℕ → List ℕ
@@ -51,13 +53,16 @@ newBytes CountPoints unit count rest = []
 newBytes ListPoints unit count rest = []
 newBytes ReadRun unit count rest = []
 newBytes AxisStatus unit count rest = []
+newBytes ShowFlags unit count rest = []
 -- 244H: "Slots are rewritten whole"
 newBytes WritePoints unit count rest = slotsOf count rest
 -- "246H sets the named slots to zero. 24EH sets columns from the start on, one byte for each."
 newBytes ClearRun unit count rest = replicate (count * unit) 0
 newBytes ChangeRun unit count rest = bytesIn rest
+-- 24BH, change type: "0 stores 00, 1 stores 01"
+newBytes SetFlag unit count rest = numberOf rest ∷ []
 
--- what the reply to each message says after its station ("Each message"; the writes' replies by 4-3-23, 4-3-25 and 4-3-30)
+-- what the reply to each message says after its station ("Each message"; the writes' replies by 4-3-23, 4-3-25, 4-3-27, 4-3-28 and 4-3-30)
 abbrev pub saidBy : Action → Call → Message → ℕ → ℕ → List ℕ
 saidBy SayBack c m start count = sameText m (rest c m)
 saidBy CountPoints c m start count = countText m (held c .points) (c .areas .points)
@@ -68,6 +73,8 @@ saidBy AxisStatus c m start count = axesText m (bitAnd (numberOf (rest c m)) (c 
 saidBy WritePoints c m start count = headOf m start count
 saidBy ClearRun c m start count = headOf m start count
 saidBy ChangeRun c m start count = headOf m start count
+saidBy ShowFlags c m start count = flagsText m (kindOf (held c) (m .tag)) start count (areaIn (m .tag) (c .areas))
+saidBy SetFlag c m start count = headOf m start count
 
 -- the reply: from 101 on the "error" reply, "10 reply bytes written, nothing else"
 abbrev pub textOf : Call → Asked → List ℕ
@@ -94,6 +101,6 @@ answerOf c =
     (record { number = numberGiven (asked c); text = textOf c (asked c); areas = areasAfter c (asked c) })
     (unanswered (silentOf c) (c .areas))
 
--- "The step back tests 2, 3, 4, then 9."
+-- "The step back tests 2, 3, 4, then 9", and 10 after 3 (02, a)
 unfoldable pub backOf : Areas → Outcome
 backOf a = cond (eqb (backRefusalOf a) 0) (unanswered 0 (steppedBack (heldIn (lengthsOf a)) a)) (unanswered (backRefusalOf a) a)

@@ -1,4 +1,4 @@
-// The link: every frame answered, and the step back (document 01 whole).
+// The link: every frame answered, and the step back (document 01 whole, and document 02, request a).
 use axes::Axes;
 use calls::Kept;
 use calls::Settings;
@@ -6,6 +6,7 @@ use frames::replies::error_reply;
 use journal::find_last;
 use journal::remove;
 use journal::restore;
+use kinds::Firsts;
 use kinds::Held;
 use kinds::Kind;
 use kinds::Lengths;
@@ -15,6 +16,7 @@ use messages::content;
 use messages::judge;
 use queries::reply_axes;
 use queries::reply_count;
+use queries::reply_flags;
 use queries::reply_head;
 use queries::reply_list;
 use queries::reply_run;
@@ -25,17 +27,25 @@ use table::Action;
 use table::Message;
 use writes::change;
 use writes::clear;
+use writes::set_flag;
 use writes::write_points;
 ghost use mathlib.Core.Path.{_≡_};
-ghost use Prim.Native.Nat.{_+_, _≤_};
+ghost use mathlib.Core.Bool.{true};
+ghost use Prim.Native.Nat.{_+_, _*_, _≤_, _<_};
 ghost use lib.ListN.{length};
+ghost use Rattle.digits.specs.Digits.{allDigits};
 ghost use Rattle.digits.specs.Laid.{laid};
 ghost use Rattle.frames.specs.Frame.{errorOf};
-ghost use Rattle.kinds.specs.Kinds.{Sound, pointsOf, columnsOf, sizeOf};
+ghost use Rattle.kinds.specs.Kinds.{Sound, pointsOf, columnsOf, integersOf, flagsOf, sizeOf, placeOf};
 ghost use Rattle.journal.specs.Journal.{puts, entryFor};
 ghost use Rattle.journal.specs.Laws.{Good};
+ghost use Rattle.pairs.specs.Pairs.{bytesIn};
+ghost use Rattle.table.specs.Table.{Narrow};
+ghost use Rattle.queries.specs.Replies.{runText};
+ghost use Rattle.queries.specs.Laws.{Replied};
+ghost use Rattle.writes.specs.Writes.{Ready, Written};
 ghost use Rattle.calls.specs.Calls.{areasOf, callOf};
-ghost use Rattle.link.specs.Contract.{Heard, Answers, StepsBack};
+ghost use Rattle.link.specs.Contract.{Heard, Answers, StepsBack, runArea};
 
 // The answer to a frame: its number, the reply's length, what is handed on.
 pub struct Answered {
@@ -74,6 +84,55 @@ fn refuse(reply: &mut [u8], station: u8, number: u16, kept: Kept) -> Answered
     }
 }
 
+// 210H and 20EH: a run said, of the area of its kind.
+fn read_run(
+    columns: &[u8],
+    integers: &[u8],
+    reply: &mut [u8],
+    station: u8,
+    m: Message,
+    k: Kind,
+    start: usize,
+    count: usize,
+) -> usize
+    requires { ⌜ Narrow m × (1024 ≤ length (now reply)) × (k .first ≤ start) × (2 * (count * k .unit) ≤ 1000) ⌝ }
+    requires { ⌜ (length (runArea (m .tag) (now columns) (now integers)) ≡ sizeOf k) × (placeOf k start + count * k .unit ≤ sizeOf k)
+        × (sizeOf k < 65536) ⌝ }
+    ensures { λ r. ⌜ Replied (now (reply .entry)) (now (reply .exit)) r station
+        (runText m k start count (runArea (m .tag) (now (columns .entry)) (now (integers .entry)))) ⌝ }
+{
+    if m.tag == Kind::INTEGERS {
+        return reply_run(reply, station, m, k, integers, start, count);
+    }
+    reply_run(reply, station, m, k, columns, start, count)
+}
+
+// 24EH and 24CH: a run changed in the area of its kind. The new used length.
+fn change_run(
+    columns: &mut [u8],
+    integers: &mut [u8],
+    journal: &mut [u8],
+    used: usize,
+    held: Held,
+    k: Kind,
+    start: usize,
+    count: usize,
+    digits: &[u8],
+) -> usize
+    requires { ⌜ (allDigits (now digits) ≡ true) × (length (now digits) ≡ 2 * (count * k .unit)) ⌝ }
+    requires { ⌜ Ready held k start count (runArea (k .tag) (now columns) (now integers)) (now journal) used ⌝ }
+    ensures { λ r. ⌜ Written held k start count (bytesIn (now (digits .entry)))
+        (runArea (k .tag) (now (columns .entry)) (now (integers .entry))) (runArea (k .tag) (now (columns .exit)) (now (integers .exit)))
+        (now (journal .entry)) (now (journal .exit)) used r ⌝ }
+    ensures { λ _. ⌜ runArea (k .tag) (now (integers .exit)) (now (columns .exit))
+        ≡ runArea (k .tag) (now (integers .entry)) (now (columns .entry)) ⌝ }
+{
+    if k.tag == Kind::INTEGERS {
+        return change(integers, journal, used, held, k, start, count, digits);
+    }
+    change(columns, journal, used, held, k, start, count, digits)
+}
+
 // What a message orders, once no refusal holds: a query's reply, or a write and its reply.
 fn carry_out(
     m: Message,
@@ -82,22 +141,28 @@ fn carry_out(
     frame: &[u8],
     points: &mut [u8],
     columns: &mut [u8],
+    integers: &mut [u8],
+    flags: &mut [u8],
     journal: &mut [u8],
     kept: Kept,
+    firsts: Firsts,
     axes: Axes,
     settings: Settings,
     reply: &mut [u8],
 ) -> Answered
-    requires { ⌜ Heard (callOf (now frame) axes settings (now reply) (areasOf (now points) (now columns) (now journal) kept)) m start count ⌝ }
+    requires { ⌜ Heard (callOf (now frame) axes settings (now reply) (areasOf (now points) (now columns) (now integers) (now flags) (now journal) kept firsts)) m start count ⌝ }
     ensures { λ r. ⌜ Answers
         (callOf (now (frame .entry)) axes settings (now (reply .entry))
-        (areasOf (now (points .entry)) (now (columns .entry)) (now (journal .entry)) kept))
-        r (areasOf (now (points .exit)) (now (columns .exit)) (now (journal .exit)) (r .kept)) (now (reply .exit)) ⌝ }
+        (areasOf (now (points .entry)) (now (columns .entry)) (now (integers .entry)) (now (flags .entry)) (now (journal .entry)) kept firsts))
+        r (areasOf (now (points .exit)) (now (columns .exit)) (now (integers .exit)) (now (flags .exit)) (now (journal .exit)) (r .kept) firsts) (now (reply .exit)) ⌝ }
 {
     let station = settings.station;
     let lengths = Lengths {
         points: points.len(),
         columns: columns.len(),
+        integers: integers.len(),
+        flags: flags.len(),
+        firsts,
     };
     let held = held_in(lengths);
     let k = held.kind(m.tag);
@@ -117,7 +182,7 @@ fn carry_out(
             accept(long, kept.used)
         }
         Action::ReadRun => {
-            let long = reply_run(reply, station, m, k, columns, start, count);
+            let long = read_run(columns, integers, reply, station, m, k, start, count);
             accept(long, kept.used)
         }
         Action::AxisStatus => {
@@ -135,7 +200,25 @@ fn carry_out(
             accept(reply_head(reply, station, m, start, count), left)
         }
         Action::ChangeRun => {
-            let left = change(columns, journal, kept.used, held, k, start, count, rest);
+            let left = change_run(
+                columns,
+                integers,
+                journal,
+                kept.used,
+                held,
+                k,
+                start,
+                count,
+                rest,
+            );
+            accept(reply_head(reply, station, m, start, count), left)
+        }
+        Action::ShowFlags => {
+            let long = reply_flags(reply, station, m, k, flags, start, count);
+            accept(long, kept.used)
+        }
+        Action::SetFlag => {
+            let left = set_flag(flags, journal, kept.used, held, k, start, rest);
             accept(reply_head(reply, station, m, start, count), left)
         }
     }
@@ -146,20 +229,26 @@ pub fn answer(
     frame: &[u8],
     points: &mut [u8],
     columns: &mut [u8],
+    integers: &mut [u8],
+    flags: &mut [u8],
     journal: &mut [u8],
     kept: Kept,
+    firsts: Firsts,
     axes: Axes,
     settings: Settings,
     reply: &mut [u8],
 ) -> Answered
     ensures { λ r. ⌜ Answers
         (callOf (now (frame .entry)) axes settings (now (reply .entry))
-        (areasOf (now (points .entry)) (now (columns .entry)) (now (journal .entry)) kept))
-        r (areasOf (now (points .exit)) (now (columns .exit)) (now (journal .exit)) (r .kept)) (now (reply .exit)) ⌝ }
+        (areasOf (now (points .entry)) (now (columns .entry)) (now (integers .entry)) (now (flags .entry)) (now (journal .entry)) kept firsts))
+        r (areasOf (now (points .exit)) (now (columns .exit)) (now (integers .exit)) (now (flags .exit)) (now (journal .exit)) (r .kept) firsts) (now (reply .exit)) ⌝ }
 {
     let lengths = Lengths {
         points: points.len(),
         columns: columns.len(),
+        integers: integers.len(),
+        flags: flags.len(),
+        firsts,
     };
     let number = silent(reply.len(), frame, axes, settings, lengths, journal, kept);
     if number != 0 {
@@ -183,8 +272,11 @@ pub fn answer(
             frame,
             points,
             columns,
+            integers,
+            flags,
             journal,
             kept,
+            firsts,
             axes,
             settings,
             reply,
@@ -193,25 +285,50 @@ pub fn answer(
 }
 
 // An entry's bytes put back into the area of its kind.
-fn put_back(points: &mut [u8], columns: &mut [u8], held: Held, tag: u8, start: usize, old: &[u8])
+fn put_back(
+    points: &mut [u8],
+    columns: &mut [u8],
+    integers: &mut [u8],
+    flags: &mut [u8],
+    held: Held,
+    tag: u8,
+    start: usize,
+    old: &[u8],
+)
     requires { ⌜ Sound held × Good held (entryFor tag start (now old)) ⌝ }
-    requires { ⌜ (length (now points) ≡ sizeOf (pointsOf held)) × (length (now columns) ≡ sizeOf columnsOf) ⌝ }
-    ensures { λ _. ⌜ now (points .exit) ≡ puts (pointsOf held) (entryFor tag start (now (old .entry))) (now (points .entry)) ⌝ }
-    ensures { λ _. ⌜ now (columns .exit) ≡ puts columnsOf (entryFor tag start (now (old .entry))) (now (columns .entry)) ⌝ }
+    requires { ⌜ (length (now points) ≡ sizeOf (pointsOf held)) × (length (now columns) ≡ sizeOf columnsOf)
+        × (length (now integers) ≡ sizeOf (integersOf held)) × (length (now flags) ≡ sizeOf (flagsOf held)) ⌝ }
+    ensures { λ _. ⌜ (now (points .exit) ≡ puts (pointsOf held) (entryFor tag start (now (old .entry))) (now (points .entry)))
+        × (now (columns .exit) ≡ puts columnsOf (entryFor tag start (now (old .entry))) (now (columns .entry)))
+        × (now (integers .exit) ≡ puts (integersOf held) (entryFor tag start (now (old .entry))) (now (integers .entry)))
+        × (now (flags .exit) ≡ puts (flagsOf held) (entryFor tag start (now (old .entry))) (now (flags .entry))) ⌝ }
 {
     restore(points, held.kind(Kind::POINTS), tag, start, old);
     restore(columns, held.kind(Kind::COLUMNS), tag, start, old);
+    restore(integers, held.kind(Kind::INTEGERS), tag, start, old);
+    restore(flags, held.kind(Kind::FLAGS), tag, start, old);
 }
 
 // The local call from the service panel: the last entry's bytes go back. Any areas, any lengths.
-pub fn step_back(points: &mut [u8], columns: &mut [u8], journal: &mut [u8], kept: Kept) -> Back
+pub fn step_back(
+    points: &mut [u8],
+    columns: &mut [u8],
+    integers: &mut [u8],
+    flags: &mut [u8],
+    journal: &mut [u8],
+    kept: Kept,
+    firsts: Firsts,
+) -> Back
     ensures { λ r. ⌜ StepsBack
-        (areasOf (now (points .entry)) (now (columns .entry)) (now (journal .entry)) kept)
-        r (areasOf (now (points .exit)) (now (columns .exit)) (now (journal .exit)) (r .kept)) ⌝ }
+        (areasOf (now (points .entry)) (now (columns .entry)) (now (integers .entry)) (now (flags .entry)) (now (journal .entry)) kept firsts)
+        r (areasOf (now (points .exit)) (now (columns .exit)) (now (integers .exit)) (now (flags .exit)) (now (journal .exit)) (r .kept) firsts) ⌝ }
 {
     let lengths = Lengths {
         points: points.len(),
         columns: columns.len(),
+        integers: integers.len(),
+        flags: flags.len(),
+        firsts,
     };
     let number = back_refusal(lengths, journal, kept);
     if number != 0 {
@@ -224,6 +341,8 @@ pub fn step_back(points: &mut [u8], columns: &mut [u8], journal: &mut [u8], kept
     put_back(
         points,
         columns,
+        integers,
+        flags,
         held,
         last.tag,
         last.start,

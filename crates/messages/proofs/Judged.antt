@@ -1,37 +1,39 @@
 -- The rows of a message as one choice over truth values, and what an order tells.
-use Prim.Native.Nat.{ℕ, _≤_, _<_}
+use Prim.Native.Nat.{ℕ, _+_, _≤_, _<_}
 use mathlib.Core.Path.{_≡_, refl, sym, ap, _∙_, subst}
 use mathlib.Core.Bool.{Bool, true, false, cond, not, _&&_}
 use mathlib.Core.List.{List}
 use native.Mathlib.Omega.{arith}
 use lib.Dec.{eqb, leb}
-use lib.ListN.{length}
+use lib.ListN.{length, take, drop, length-drop}
+use lib.Seq.{length-take-le}
 use borrow.Author.Tests.{eqb-true, eqb-false, eq-eqb, ne-eqb, le-leb, lt-leb, not-false}
-use Rattle.digits.specs.Digits.{allDigits}
+use Rattle.digits.specs.Digits.{allDigits, numberOf}
 use Rattle.frames.specs.Frame.{contentIn}
 use Rattle.kinds.specs.declared.Held.{Held}
 use Rattle.kinds.specs.declared.Kind.{Kind}
 use Rattle.kinds.specs.Kinds.{kindOf, holds}
 use Rattle.points.specs.Point.{fillsOf}
 use Rattle.table.specs.declared.Follows.{Follows}
-use Rattle.table.specs.declared.Follows.the-variants.{Nothing, TenBytes, AxisPattern, Points, RunBytes}
+use Rattle.table.specs.declared.Follows.the-variants.{Nothing, TenBytes, AxisPattern, Points, RunBytes, ChangeType}
 use Rattle.table.specs.declared.Message.{Message}
 use Rattle.table.specs.declared.Named.{Named}
 use Rattle.table.specs.declared.Named.the-variants.{Known, Unknown}
 use Rattle.messages.specs.declared.Asked.{Asked}
 use Rattle.messages.specs.declared.Asked.the-variants.{Refused, Order}
 use Rattle.messages.specs.Rows.{firstOf}
-use Rattle.table.specs.Table.{messageOf, fieldsOf, programIn, startIn, countIn, restIn, followsRight, anyBytes, havePoints, patternsFit}
-use Rattle.messages.specs.Asked.{notDigits, wrongLength, wrongProgram, countZero, notHeld, wrongPattern, askedRows, judged, askedOf, numberGiven}
+use Rattle.table.specs.Table.{messageOf, fieldsOf, programIn, startIn, countIn, restIn, followsRight, anyBytes, havePoints, haveType, patternsFit}
+use Rattle.messages.specs.Asked.{notDigits, wrongLength, wrongProgram, countZero, notHeld, wrongPattern, wrongType, askedRows, judged, askedOf, numberGiven}
 
-abbrev pub pick : Bool → Bool → Bool → Bool → Bool → Bool → ℕ
-pick p q r s t u = cond p 102 (cond q 103 (cond r 104 (cond s 105 (cond t 106 (cond u 107 0)))))
+abbrev pub pick : Bool → Bool → Bool → Bool → Bool → Bool → Bool → ℕ
+pick p q r s t u v = cond p 102 (cond q 103 (cond r 104 (cond s 105 (cond t 106 (cond u 107 (cond v 108 0))))))
 
 module _ (held : Held) (fitted : ℕ) (m : Message) (content : List ℕ) where
   abbrev pub picked : ℕ
   picked =
       pick (notDigits m content) (wrongLength held m content) (wrongProgram m content) (countZero m content) (notHeld held m content)
       (wrongPattern fitted m content)
+      (wrongType m content)
 
   pub picked-rows : firstOf (askedRows held fitted (Known m) content) ≡ picked
   unfolding askedRows
@@ -41,7 +43,7 @@ module _ (held : Held) (fitted : ℕ) (m : Message) (content : List ℕ) where
   unfolding judged askedRows
   judged-known = refl
 
-  -- none of 102 to 107 is given to a content
+  -- none of 102 to 108 is given to a content
   pub record Right : Type 0 where
     pub digits : notDigits m content ≡ false
     pub long : wrongLength held m content ≡ false
@@ -49,16 +51,18 @@ module _ (held : Held) (fitted : ℕ) (m : Message) (content : List ℕ) where
     pub some : countZero m content ≡ false
     pub held-all : notHeld held m content ≡ false
     pub pattern : wrongPattern fitted m content ≡ false
+    pub type : wrongType m content ≡ false
 
-none-picked : (p q r s t u : Bool) → pick p q r s t u ≡ 0
-    → (p ≡ false) × (q ≡ false) × (r ≡ false) × (s ≡ false) × (t ≡ false) × (u ≡ false)
-none-picked true q r s t u e = absurd (omega arith)
-none-picked false true r s t u e = absurd (omega arith)
-none-picked false false true s t u e = absurd (omega arith)
-none-picked false false false true t u e = absurd (omega arith)
-none-picked false false false false true u e = absurd (omega arith)
-none-picked false false false false false true e = absurd (omega arith)
-none-picked false false false false false false e = (refl, refl, refl, refl, refl, refl)
+none-picked : (p q r s t u v : Bool) → pick p q r s t u v ≡ 0
+    → (p ≡ false) × (q ≡ false) × (r ≡ false) × (s ≡ false) × (t ≡ false) × (u ≡ false) × (v ≡ false)
+none-picked true q r s t u v e = absurd (omega arith)
+none-picked false true r s t u v e = absurd (omega arith)
+none-picked false false true s t u v e = absurd (omega arith)
+none-picked false false false true t u v e = absurd (omega arith)
+none-picked false false false false true u v e = absurd (omega arith)
+none-picked false false false false false true v e = absurd (omega arith)
+none-picked false false false false false false true e = absurd (omega arith)
+none-picked false false false false false false false e = (refl, refl, refl, refl, refl, refl, refl)
 
 module _ (held : Held) (fitted : ℕ) (m : Message) (content : List ℕ) where
   pub right : picked held fitted m content ≡ 0 → Right held fitted m content
@@ -66,12 +70,13 @@ module _ (held : Held) (fitted : ℕ) (m : Message) (content : List ℕ) where
       let h =
       none-picked (notDigits m content) (wrongLength held m content) (wrongProgram m content) (countZero m content) (notHeld held m content)
       (wrongPattern fitted m content)
+      (wrongType m content)
       e in
-      record { digits = h .0; long = h .1; program = h .2; some = h .3; held-all = h .4; pattern = h .5 }
+      record { digits = h .0; long = h .1; program = h .2; some = h .3; held-all = h .4; pattern = h .5; type = h .6 }
 
   -- such a content is the message's order
   pub ordered : Right held fitted m content → judged held fitted (Known m) content ≡ Order m (startIn m content) (countIn m content)
-  ordered r = judged-known held fitted m content ∙ rw (r .digits, r .long, r .program, r .some, r .held-all, r .pattern)
+  ordered r = judged-known held fitted m content ∙ rw (r .digits, r .long, r .program, r .some, r .held-all, r .pattern, r .type)
 
   -- the number that is given is the rows'
   pub known-number : numberGiven (judged held fitted (Known m) content) ≡ firstOf (askedRows held fitted (Known m) content)
@@ -135,6 +140,12 @@ told held fitted (Known k) content m start count e = go (eqb (picked held fitted
         }
     go false z f = absurd (let w : _≡_ {A = ℕ} 0 1 = cc in omega arith)
 
+-- a count, as the field is read
+pub counted : {n : ℕ} (m : Message) (content : List ℕ) → fieldsOf m ≤ length content
+    → n ≡ cond (eqb (length (take (m .count) (drop (m .program + m .start) content))) 0) 1 (numberOf (take (m .count) (drop (m .program + m .start) content)))
+    → n ≡ countIn m content
+counted m content r e = rw (length-take-le (m .count) (drop (m .program + m .start) content) (simp length-drop (omega arith))) at e
+
 -- a content that passed 102 is digits, unless it is any bytes; where points follow it is digits
 points-digits : (x : Follows) → havePoints x ≡ true → anyBytes x ≡ false
 points-digits Nothing e = refl
@@ -142,6 +153,7 @@ points-digits TenBytes e = sym e
 points-digits AxisPattern e = refl
 points-digits Points e = refl
 points-digits RunBytes e = refl
+points-digits ChangeType e = refl
 
 pub written : (m : Message) (content : List ℕ) → anyBytes (m .follows) ≡ false → notDigits m content ≡ false → allDigits content ≡ true
 written m content a d = not-false _ (rw a at d)
@@ -164,6 +176,9 @@ pub same-unfit : {b : Bool} {k k′ : ℕ} {t t′ : List ℕ} (x : Follows) (fi
     → b ≡ havePoints x && not (patternsFit fitted k′ t′)
 same-unfit x fitted e k t = cc
 
+pub same-unlisted : {b : Bool} {t t′ : List ℕ} (x : Follows) → b ≡ haveType x && not (leb (numberOf t) 1) → t ≡ t′ → b ≡ haveType x && not (leb (numberOf t′) 1)
+same-unlisted x e t = cc
+
 pub same-fills : {k k′ : ℕ} {t t′ : List ℕ} → fillsOf k′ t′ ≡ true → k ≡ k′ → t ≡ t′ → fillsOf k t ≡ true
 same-fills e k t = cc
 
@@ -173,13 +188,26 @@ same-judged held fitted e n t = cc
 pub same-order : {s s′ c c′ : ℕ} (m : Message) {a : Asked} → Order m s′ c′ ≡ a → s ≡ s′ → c ≡ c′ → Order m s c ≡ a
 same-order m e s c = cc
 
+not-so : {A : Type 0} → false ≡ true → A
+not-so e = absurd (let z : _≡_ {A = ℕ} 1 0 = ap (λ (b : Bool). cond b 1 0) (sym e) in omega arith)
+
 -- points that follow were read whole
 pub filled : (u k : ℕ) (t : List ℕ) (x : Follows) → havePoints x ≡ true → followsRight x u k t ≡ true → fillsOf k t ≡ true
-filled u k t Nothing p f = absurd (let z : _≡_ {A = ℕ} 1 0 = ap (λ (b : Bool). cond b 1 0) (sym p) in omega arith)
-filled u k t TenBytes p f = absurd (let z : _≡_ {A = ℕ} 1 0 = ap (λ (b : Bool). cond b 1 0) (sym p) in omega arith)
-filled u k t AxisPattern p f = absurd (let z : _≡_ {A = ℕ} 1 0 = ap (λ (b : Bool). cond b 1 0) (sym p) in omega arith)
+filled u k t Nothing p f = not-so p
+filled u k t TenBytes p f = not-so p
+filled u k t AxisPattern p f = not-so p
 filled u k t Points p f = f
-filled u k t RunBytes p f = absurd (let z : _≡_ {A = ℕ} 1 0 = ap (λ (b : Bool). cond b 1 0) (sym p) in omega arith)
+filled u k t RunBytes p f = not-so p
+filled u k t ChangeType p f = not-so p
+
+-- a change type that follows is one digit
+pub one-digit : (u k : ℕ) (t : List ℕ) (x : Follows) → haveType x ≡ true → followsRight x u k t ≡ true → length t ≡ 1
+one-digit u k t Nothing p f = not-so p
+one-digit u k t TenBytes p f = not-so p
+one-digit u k t AxisPattern p f = not-so p
+one-digit u k t Points p f = not-so p
+one-digit u k t RunBytes p f = not-so p
+one-digit u k t ChangeType p f = eqb-true _ _ f
 
 -- each return of the judgement, test after test
 module _ (held : Held) (fitted : ℕ) (m : Message) (content : List ℕ) where
@@ -211,5 +239,9 @@ module _ (held : Held) (fitted : ℕ) (m : Message) (content : List ℕ) where
               pub at-107 : wrongPattern fitted m content ≡ true → Refused 107 ≡ judged held fitted (Known m) content
               at-107 w = sym (judged-known held fitted m content ∙ rw (d, le-leb _ _ l, f, eq-eqb _ _ p, z, h, w))
 
-              pub at-order : wrongPattern fitted m content ≡ false → Order m (startIn m content) (countIn m content) ≡ judged held fitted (Known m) content
-              at-order w = sym (judged-known held fitted m content ∙ rw (d, le-leb _ _ l, f, eq-eqb _ _ p, z, h, w))
+              module _ (w : wrongPattern fitted m content ≡ false) where
+                pub at-108 : wrongType m content ≡ true → Refused 108 ≡ judged held fitted (Known m) content
+                at-108 t = sym (judged-known held fitted m content ∙ rw (d, le-leb _ _ l, f, eq-eqb _ _ p, z, h, w, t))
+
+                pub at-order : wrongType m content ≡ false → Order m (startIn m content) (countIn m content) ≡ judged held fitted (Known m) content
+                at-order t = sym (judged-known held fitted m content ∙ rw (d, le-leb _ _ l, f, eq-eqb _ _ p, z, h, w, t))

@@ -1,16 +1,19 @@
 -- What the table's rows have in common, and what each action's rows have.
 use Prim.Native.Nat.{ℕ, _≤_}
 use mathlib.Core.Path.{_≡_, refl, subst}
-use mathlib.Core.Bool.{Bool, true, false, cond}
+use mathlib.Core.Bool.{Bool, true, false, cond, _&&_}
+use mathlib.Core.Logic.{_⊎_, inl, inr}
 use mathlib.Core.List.{List, [], _∷_}
 use native.Mathlib.Omega.{arith}
-use lib.Dec.{eqb}
+use lib.Dec.{eqb, leb}
+use borrow.Author.Tests.{leb-true}
+use Rattle.digits.proofs.Inverse.{and-left, and-right}
 use Rattle.digits.specs.Digits.{allDigits, numberOf}
 use Rattle.frames.specs.Frame.{messageIn}
-use Rattle.kinds.specs.Kinds.{pointsTag, columnsTag}
-use Rattle.table.specs.declared.Follows.the-variants.{TenBytes, AxisPattern, Points, RunBytes}
+use Rattle.kinds.specs.Kinds.{pointsTag, columnsTag, integersTag, flagsTag}
+use Rattle.table.specs.declared.Follows.the-variants.{TenBytes, AxisPattern, Points, RunBytes, ChangeType}
 use Rattle.table.specs.declared.Action.{Action}
-use Rattle.table.specs.declared.Action.the-variants.{SayBack, CountPoints, ListPoints, ReadRun, AxisStatus, WritePoints, ClearRun, ChangeRun}
+use Rattle.table.specs.declared.Action.the-variants.{SayBack, CountPoints, ListPoints, ReadRun, AxisStatus, WritePoints, ClearRun, ChangeRun, ShowFlags, SetFlag}
 use Rattle.table.specs.declared.Message.{Message}
 use Rattle.table.specs.declared.Named.{Named}
 use Rattle.table.specs.declared.Named.the-variants.{Known, Unknown}
@@ -42,43 +45,41 @@ module _ (P : Message → Type 0) where
 abbrev Names : ℕ → Message → Type 0
 Names tag m = (m .tag ≡ tag) × (1 ≤ m .start) × (1 ≤ m .count)
 
+-- one that names a run of columns or of integers, by a count of two digits
+abbrev Runs : Message → Type 0
+Runs m = ((m .tag ≡ columnsTag) ⊎ (m .tag ≡ integersTag)) × (1 ≤ m .start) × (m .count ≡ 2)
+
 abbrev pub Shape : Action → Message → Type 0
 Shape SayBack m = (fieldsOf m ≡ 0) × (m .follows ≡ TenBytes)
 Shape CountPoints m = Unit
 Shape ListPoints m = Names pointsTag m
-Shape ReadRun m = Names columnsTag m × (m .count ≡ 2)
+Shape ReadRun m = Runs m
 Shape AxisStatus m = (fieldsOf m ≡ 0) × (m .follows ≡ AxisPattern)
 Shape WritePoints m = Names pointsTag m × (m .follows ≡ Points)
 Shape ClearRun m = Names pointsTag m
-Shape ChangeRun m = Names columnsTag m × (m .count ≡ 2) × (m .follows ≡ RunBytes)
+Shape ChangeRun m = Runs m × (m .follows ≡ RunBytes)
+Shape ShowFlags m = Names flagsTag m
+Shape SetFlag m = (m .tag ≡ flagsTag) × (1 ≤ m .start) × (m .count ≡ 0) × (m .follows ≡ ChangeType)
 
 pub record Shaped (m : Message) : Type 0 where
   pub narrow : Narrow m
   pub shape : Shape (m .does) m
 
+-- fields of at most four digits, by computing
+shaped-row : (m : Message) → leb (m .program) 4 && (leb (m .start) 4 && leb (m .count) 4) ≡ true → Shape (m .does) m → Shaped m
+shaped-row m w s =
+    let v = and-right (leb (m .program) 4) (leb (m .start) 4 && leb (m .count) 4) w in
+    record {
+      narrow = record {
+        program = leb-true _ _ (and-left (leb (m .program) 4) (leb (m .start) 4 && leb (m .count) 4) w);
+        start = leb-true _ _ (and-left (leb (m .start) 4) (leb (m .count) 4) v);
+        count = leb-true _ _ (and-right (leb (m .start) 4) (leb (m .count) 4) v);
+      };
+      shape = s;
+    }
+
 pub each-shaped : Each Shaped messages
-each-shaped = (
-  record { narrow = record { program = omega arith; start = omega arith; count = omega arith }; shape = (refl, refl) },
-  (
-    record { narrow = record { program = omega arith; start = omega arith; count = omega arith }; shape = tt },
-    (
-      record { narrow = record { program = omega arith; start = omega arith; count = omega arith }; shape = (refl, omega arith, omega arith) },
-      (
-        record { narrow = record { program = omega arith; start = omega arith; count = omega arith }; shape = ((refl, omega arith, omega arith), refl) },
-        (
-          record { narrow = record { program = omega arith; start = omega arith; count = omega arith }; shape = (refl, refl) },
-          (
-            record { narrow = record { program = omega arith; start = omega arith; count = omega arith }; shape = ((refl, omega arith, omega arith), refl) },
-            (
-              record { narrow = record { program = omega arith; start = omega arith; count = omega arith }; shape = (refl, omega arith, omega arith) },
-              (record { narrow = record { program = omega arith; start = omega arith; count = omega arith }; shape = ((refl, omega arith, omega arith), refl, refl) }, tt),
-            ),
-          ),
-        ),
-      ),
-    ),
-  ),
-)
+each-shaped = (shaped-row _ refl (refl, refl), (shaped-row _ refl tt, (shaped-row _ refl (refl, omega arith, omega arith), (shaped-row _ refl (refl, omega arith, omega arith), (shaped-row _ refl (inr refl, omega arith, refl), (shaped-row _ refl (inl refl, omega arith, refl), (shaped-row _ refl (refl, refl), (shaped-row _ refl ((refl, omega arith, omega arith), refl), (shaped-row _ refl (refl, omega arith, omega arith), (shaped-row _ refl (refl, omega arith, refl, refl), (shaped-row _ refl ((inr refl, omega arith, refl), refl), (shaped-row _ refl ((inl refl, omega arith, refl), refl), tt))))))))))))
 
 pub shaped : (frame : List ℕ) (m : Message) → messageOf frame ≡ Known m → Shaped m
 shaped frame m e = in-frame Shaped frame each-shaped e

@@ -1,9 +1,9 @@
--- Document 01, "Refusal numbers, in the order tested", 101 to 107: what a message with its content asks.
+-- Document 01, "Refusal numbers, in the order tested", 101 to 107, and document 02, request a, 108: what a message with its content asks.
 use Prim.Native.Nat.{ℕ}
 use mathlib.Core.Bool.{Bool, true, cond, not, _&&_}
 use mathlib.Core.List.{List, [], _∷_}
 use lib.Dec.{leb, eqb}
-use Rattle.digits.specs.Digits.{allDigits}
+use Rattle.digits.specs.Digits.{allDigits, numberOf}
 use Rattle.frames.specs.Frame.{contentIn}
 use Rattle.kinds.specs.declared.Held.{Held}
 use Rattle.kinds.specs.Kinds.{kindOf, holds}
@@ -13,7 +13,7 @@ use Rattle.table.specs.declared.Named.the-variants.{Known, Unknown}
 use Rattle.messages.specs.declared.Asked.{Asked}
 use Rattle.messages.specs.declared.Asked.the-variants.{Refused, Order}
 use Rattle.messages.specs.Rows.{Row, _when_, firstOf}
-use Rattle.table.specs.Table.{messageOf, programIn, startIn, countIn, restIn, lengthRight, anyBytes, havePoints, patternsFit}
+use Rattle.table.specs.Table.{messageOf, programIn, startIn, countIn, restIn, lengthRight, anyBytes, havePoints, haveType, patternsFit}
 
 -- 102: "a content byte isn't a digit (not 200H)"
 abbrev pub notDigits : Message → List ℕ → Bool
@@ -39,6 +39,10 @@ notHeld held m content = leb 1 (m .start) && not (holds (kindOf held (m .tag)) (
 abbrev pub wrongPattern : ℕ → Message → List ℕ → Bool
 wrongPattern fitted m content = havePoints (m .follows) && not (patternsFit fitted (countIn m content) (restIn m content))
 
+-- 108: "a flag value the section doesn't list" (02, a): a change type other than 0 and 1
+abbrev pub wrongType : Message → List ℕ → Bool
+wrongType m content = haveType (m .follows) && not (leb (numberOf (restIn m content)) 1)
+
 -- 101: "message unknown"; then the rows of a message that is known
 unfoldable pub askedRows : Held → ℕ → Named → List ℕ → List Row
 askedRows held fitted Unknown content = (101 when true) ∷ []
@@ -49,6 +53,7 @@ askedRows held fitted (Known m) content =
     ∷ (105 when (countZero m content))
     ∷ (106 when (notHeld held m content))
     ∷ (107 when (wrongPattern fitted m content))
+    ∷ (108 when (wrongType m content))
     ∷ []
 
 -- the refusal's number, or, where none is given, the order with its numbers

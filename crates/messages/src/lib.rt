@@ -1,4 +1,4 @@
-// What a frame asks: a read-only judgement (document 01, "Each message" and refusals 101 to 107).
+// What a frame asks: a read-only judgement (document 01, "Each message" and refusals 101 to 107; document 02, a: 108).
 use digits::Field;
 use kinds::Held;
 use kinds::Kind;
@@ -9,7 +9,7 @@ use table::Message;
 use table::Named;
 use table::numbered;
 ghost use mathlib.Core.Path.{_≡_};
-ghost use mathlib.Core.Bool.{true, not, _&&_};
+ghost use mathlib.Core.Bool.{true, cond, not, _&&_};
 ghost use Prim.Native.Nat.{_+_, _*_, _≤_, _<_};
 ghost use lib.Dec.{leb, eqb};
 ghost use lib.ListN.{length};
@@ -19,10 +19,10 @@ ghost use Rattle.kinds.specs.Kinds.{Sound, holds};
 ghost use Rattle.points.specs.Point.{fillsOf};
 ghost use Rattle.table.specs.declared.Named.the-variants.{Known};
 ghost use Rattle.table.specs.Table.{messageOf, fieldsOf, programIn, startIn, countIn, followsRight, Narrow};
-ghost use Rattle.table.specs.Table.{anyBytes, havePoints, patternFits, patternsFit};
+ghost use Rattle.table.specs.Table.{anyBytes, havePoints, haveType, patternFits, patternsFit};
 ghost use Rattle.messages.specs.Asked.{notDigits, judged, askedOf};
 
-// What a frame asks: a refusal, 101 to 107, or a message's order with its start number and count.
+// What a frame asks: a refusal, 101 to 108, or a message's order with its start number and count.
 pub enum Asked {
     Refused {
         number: u16,
@@ -63,6 +63,17 @@ fn small(field: &[u8]) -> usize
     digits::number(field) as usize
 }
 
+// The number of a count; without one, one thing is named.
+fn count_of(field: &[u8]) -> usize
+    requires { ⌜ length (now field) ≤ 4 ⌝ }
+    ensures { λ r. ⌜ (r ≡ cond (eqb (length (now (field .entry))) 0) 1 (numberOf (now (field .entry)))) × (r < 65536) ⌝ }
+{
+    if field.len() == 0 {
+        return 1;
+    }
+    small(field)
+}
+
 // Program number, start number and count of a content.
 struct Numbers {
     program: usize,
@@ -81,7 +92,7 @@ fn read_numbers(m: Message, content: &[u8]) -> Numbers
     let c = s + m.count;
     let program = small(&content[..p]);
     let start = small(&content[p..s]);
-    let count = small(&content[s..c]);
+    let count = count_of(&content[s..c]);
     Numbers {
         program,
         start,
@@ -99,6 +110,7 @@ fn is_any(follows: Follows) -> bool
         Follows::AxisPattern => false,
         Follows::Points => false,
         Follows::RunBytes => false,
+        Follows::ChangeType => false,
     }
 }
 
@@ -112,6 +124,21 @@ fn is_points(follows: Follows) -> bool
         Follows::AxisPattern => false,
         Follows::Points => true,
         Follows::RunBytes => false,
+        Follows::ChangeType => false,
+    }
+}
+
+// A change type follows.
+fn is_type(follows: Follows) -> bool
+    ensures { λ r. ⌜ r ≡ haveType follows ⌝ }
+{
+    match follows {
+        Follows::Nothing => false,
+        Follows::TenBytes => false,
+        Follows::AxisPattern => false,
+        Follows::Points => false,
+        Follows::RunBytes => false,
+        Follows::ChangeType => true,
     }
 }
 
@@ -138,6 +165,7 @@ fn is_long(follows: Follows, unit: usize, count: usize, rest: &[u8]) -> bool
         Follows::AxisPattern => n == 2,
         Follows::Points => fills(rest, count),
         Follows::RunBytes => n == 2 * (count * unit),
+        Follows::ChangeType => n == 1,
     }
 }
 
@@ -153,7 +181,7 @@ fn is_none(m: Message, count: usize) -> bool
 
 // Refusal 106.
 fn is_beyond(m: Message, k: Kind, start: usize, count: usize) -> bool
-    requires { ⌜ (start < 65536) × (count < 65536) × (k .first + k .held < 65536) ⌝ }
+    requires { ⌜ (start < 65536) × (count < 65536) × (k .first + k .held ≤ 65536) ⌝ }
     ensures { λ r. ⌜ r ≡ leb 1 (m .start) && not (holds k start count) ⌝ }
 {
     if m.start < 1 {
@@ -201,7 +229,18 @@ fn is_unfit(follows: Follows, count: usize, rest: &[u8], fitted: u8) -> bool
     !fit_patterns(rest, count, fitted)
 }
 
-// What a message with its content asks: 102 to 107 in this order, or its order.
+// Refusal 108.
+fn is_unlisted(follows: Follows, rest: &[u8]) -> bool
+    requires { ⌜ (haveType follows ≡ true → length (now rest) ≡ 1) ⌝ }
+    ensures { λ r. ⌜ r ≡ haveType follows && not (leb (numberOf (now (rest .entry))) 1) ⌝ }
+{
+    if !is_type(follows) {
+        return false;
+    }
+    !(small(rest) <= 1)
+}
+
+// What a message with its content asks: 102 to 108 in this order, or its order.
 fn judge_content(m: Message, content: &[u8], held: Held, fitted: u8) -> Asked
     requires { ⌜ Narrow m × Sound held ⌝ }
     ensures { λ r. ⌜ r ≡ judged held fitted (Known m) (now (content .entry)) ⌝ }
@@ -231,6 +270,9 @@ fn judge_content(m: Message, content: &[u8], held: Held, fitted: u8) -> Asked
     }
     if is_unfit(follows, n.count, rest, fitted) {
         return Asked::Refused { number: 107 };
+    }
+    if is_unlisted(follows, rest) {
+        return Asked::Refused { number: 108 };
     }
     Asked::Order {
         message: m,

@@ -1,5 +1,5 @@
 -- Texts laid from byte 3 on, and replies closed over them.
-use Prim.Native.Nat.{ℕ, _+_, _-_, _*_, _≤_}
+use Prim.Native.Nat.{ℕ, _+_, _-_, _*_, _/_, _≤_}
 use mathlib.Core.Path.{_≡_, refl, sym, ap, ap₂, _∙_}
 use mathlib.Core.Bool.{true, false}
 use mathlib.Core.List.{List, _++_, append-assoc}
@@ -24,7 +24,9 @@ use Rattle.frames.proofs.Closing.{length-reply, closed-over}
 use Rattle.table.specs.declared.Message.{Message}
 use Rattle.table.specs.Table.{Narrow}
 use Rattle.queries.specs.Laws.{Replied}
-use Rattle.queries.specs.Replies.{idOf, headOf, countText, listText, runText, recordsDigits, axesText}
+use Rattle.flags.specs.Flags.{eights}
+use Rattle.flags.proofs.Promised.{shown}
+use Rattle.queries.specs.Replies.{idOf, headOf, countText, listText, runText, flagsText, recordsDigits, axesText}
 use Rattle.queries.proofs.Recorded.{length-records}
 
 -- a reply closed over a text that was laid
@@ -80,23 +82,31 @@ module _ (d : List ℕ) (m : Message) (start count : ℕ) where
     pub head-alone : m .repeats ≡ false → ((6 ≡ 3 + length (headOf m start count)) × (6 ≤ 18)) × (r1 ≡ laid d 3 (headOf m start count))
     head-alone t = rw t ((refl, omega arith), e)
 
--- 210H: the head, then two digits for each byte of the run
+-- 210H, 20EH and 20DH: the head, then what is shown of the run's bytes
 module _ (m : Message) (k : Kind) (start count end at many : ℕ) (area : List ℕ) (ends : end ≡ 3 + length (headOf m start count)) (where-is : at ≡ placeOf k start)
     (run : many ≡ count * k .unit) where
-  pub run-laid : (d r1 r2 : List ℕ) → 3 ≤ length d → r1 ≡ laid d 3 (headOf m start count) → r2 ≡ laid r1 end (digitsIn (take (at + many - at) (drop at area)))
-      → r2 ≡ laid d 3 (runText m k start count area)
+  pub run-laid : (shows : List ℕ → List ℕ) (d r1 r2 : List ℕ) → 3 ≤ length d → r1 ≡ laid d 3 (headOf m start count)
+      → r2 ≡ laid r1 end (shows (take (at + many - at) (drop at area))) → r2 ≡ laid d 3 (headOf m start count ++ shows (runOf k start count area))
   unfolding runOf
-  run-laid d r1 r2 h e f =
+  run-laid shows d r1 r2 h e f =
       f
       ∙ rw (add-sub-cancel-left, e, where-is, run)
-      (laid-on d (headOf m start count) (digitsIn (take (count * k .unit) (drop (placeOf k start) area))) 3 end (sym ends) h)
+      (laid-on d (headOf m start count) (shows (take (count * k .unit) (drop (placeOf k start) area))) 3 end (sym ends) h)
 
-  pub length-run : placeOf k start + count * k .unit ≤ length area → length (runText m k start count area) ≡ end - 3 + 2 * many
-  unfolding runOf
-  length-run h =
-      let r = take (count * k .unit) (drop (placeOf k start) area) in
-      let n : length r ≡ count * k .unit = length-take-le (count * k .unit) (drop (placeOf k start) area) (simp length-drop (omega arith)) in
-      omega (arith, length-append (headOf m start count) (digitsIn r), length-digitsIn r)
+  module _ (h : placeOf k start + count * k .unit ≤ length area) where
+    run-long : length (runOf k start count area) ≡ many
+    unfolding runOf
+    run-long = length-take-le (count * k .unit) (drop (placeOf k start) area) (simp length-drop (omega arith)) ∙ sym run
+
+    pub length-run : length (runText m k start count area) ≡ end - 3 + 2 * many
+    length-run =
+        let r = runOf k start count area in
+        omega (arith, length-append (headOf m start count) (digitsIn r), length-digitsIn r, run-long)
+
+    pub length-flags : length (flagsText m k start count area) ≡ end - 3 + 2 * ((many + 7) / 8)
+    length-flags =
+        let r = runOf k start count area in
+        omega (arith, length-append (headOf m start count) (digitsIn (eights 0 r)), length-digitsIn (eights 0 r), shown r .as-many, run-long)
 
 -- 208H: the ID, then a number
 pub count-laid : (d r1 r2 points : List ℕ) (m : Message) (n k : ℕ) → 3 ≤ length d → k ≡ effectiveIn n points → r1 ≡ laid d 3 (idOf m) → r2 ≡ laid r1 6 (digitsOf 3 k)

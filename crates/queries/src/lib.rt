@@ -1,7 +1,8 @@
-// The replies to queries, laid into the lent reply area (document 01, "Each message").
+// The replies to queries, laid into the lent reply area (document 01, "Each message"; document 02, a).
 use areas::runs::put_run;
 use axes::AxisRecord;
 use digits::put_number;
+use flags::put_flags;
 use frames::replies::close_reply;
 use kinds::Kind;
 use listing::put_listings;
@@ -18,7 +19,7 @@ ghost use Rattle.digits.specs.Laid.{laid};
 ghost use Rattle.kinds.specs.Kinds.{sizeOf, placeOf};
 ghost use Rattle.points.specs.Axes.{axesOf};
 ghost use Rattle.table.specs.Table.{Narrow};
-ghost use Rattle.queries.specs.Replies.{headOf, sameText, countText, listText, runText, recordDigits, recordsDigits, axesText};
+ghost use Rattle.queries.specs.Replies.{headOf, sameText, countText, listText, runText, flagsText, recordDigits, recordsDigits, axesText};
 ghost use Rattle.queries.specs.Laws.{Replied};
 
 // Program number 00, start and count, each as long as the message has it; where they end.
@@ -79,7 +80,7 @@ pub fn reply_count(reply: &mut [u8], station: u8, m: Message, points: &[u8], n: 
     close_reply(reply, station, 6)
 }
 
-// 210H, and every message that reads a run: the head, then two digits for each byte.
+// 210H, 20EH, and every message that reads a run: the head, then two digits for each byte.
 pub fn reply_run(
     reply: &mut [u8],
     station: u8,
@@ -98,6 +99,27 @@ pub fn reply_run(
     let many = count * k.unit;
     put_digits(reply, end, &area[at..at + many]);
     close_reply(reply, station, end - 3 + 2 * many)
+}
+
+// 20DH: the head, then two digits for each eight flags begun.
+pub fn reply_flags(
+    reply: &mut [u8],
+    station: u8,
+    m: Message,
+    k: Kind,
+    area: &[u8],
+    start: usize,
+    count: usize,
+) -> usize
+    requires { ⌜ Narrow m × (1024 ≤ length (now reply)) × (k .first ≤ start) × (count * k .unit ≤ 1000) ⌝ }
+    requires { ⌜ (length (now area) ≡ sizeOf k) × (placeOf k start + count * k .unit ≤ sizeOf k) × (sizeOf k < 65536) ⌝ }
+    ensures { λ r. ⌜ Replied (now (reply .entry)) (now (reply .exit)) r station (flagsText m k start count (now (area .entry))) ⌝ }
+{
+    let end = put_head(reply, m, start, count);
+    let at = k.place(start);
+    let many = count * k.unit;
+    put_flags(reply, end, &area[at..at + many]);
+    close_reply(reply, station, end - 3 + 2 * ((many + 7) / 8))
 }
 
 // One axis: sixteen digits.

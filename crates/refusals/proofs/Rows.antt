@@ -18,7 +18,7 @@ use Rattle.calls.specs.declared.Kept.{Kept}
 use Rattle.kinds.specs.declared.Lengths.{Lengths}
 use Rattle.kinds.specs.Kinds.{heldIn}
 use Rattle.calls.specs.Calls.{Call, lengthsOf}
-use Rattle.refusals.specs.Refusals.{pointsFit, journalFits, axesFit, areaRows, frameRows, silentRows, silentOf, refusalOf, backRows}
+use Rattle.refusals.specs.Refusals.{pointsFit, variablesFit, journalFits, axesFit, areaRows, frameRows, silentRows, silentOf, refusalOf, backRows}
 
 -- three rows, and what comes behind them
 abbrev pub three : ℕ → Bool → Bool → Bool → ℕ → ℕ
@@ -36,9 +36,29 @@ three-passed n false true r k h e = absurd (omega arith)
 three-passed n false false true k h e = absurd (omega arith)
 three-passed n false false false k h e = (refl, refl, refl, e)
 
+-- the areas' four, in the order tested, and what comes behind them
+abbrev pub four : Bool → Bool → Bool → Bool → ℕ → ℕ
+four p q v r k = cond p 2 (cond q 3 (cond v 10 (cond r 4 k)))
+
+pub four-given : (p q v r : Bool) (k : ℕ) → (four p q v r 0 ≡ 0 → ⊥) → four p q v r k ≡ four p q v r 0
+four-given true q v r k h = refl
+four-given false true v r k h = refl
+four-given false false true r k h = refl
+four-given false false false true k h = refl
+four-given false false false false k h = absurd (h refl)
+
+pub four-passed : (p q v r : Bool) (k : ℕ) → four p q v r k ≡ 0 → (p ≡ false) × (q ≡ false) × (v ≡ false) × (r ≡ false) × (k ≡ 0)
+four-passed true q v r k e = absurd (omega arith)
+four-passed false true v r k e = absurd (omega arith)
+four-passed false false true r k e = absurd (omega arith)
+four-passed false false false true k e = absurd (omega arith)
+four-passed false false false false k e = (refl, refl, refl, refl, e)
+
 module _ (lengths : Lengths) (journal : List ℕ) (kept : Kept) where
   abbrev pub areaNumber : ℕ → ℕ
-  areaNumber k = three 2 (not (pointsFit (lengths .points))) (not (eqb (lengths .columns) 700)) (not (journalFits (heldIn lengths) journal (kept .used))) k
+  areaNumber k =
+      four (not (pointsFit (lengths .points))) (not (eqb (lengths .columns) 700)) (not (variablesFit (lengths .integers) (lengths .flags) (lengths .firsts)))
+      (not (journalFits (heldIn lengths) journal (kept .used))) k
 
   pub area-rows : firstOf (areaRows lengths journal kept) ≡ areaNumber 0
   unfolding areaRows
@@ -53,24 +73,26 @@ module _ (lengths : Lengths) (journal : List ℕ) (kept : Kept) where
   area-given k h =
       area-rows
       ∙ sym
-      (three-given 2 (not (pointsFit (lengths .points))) (not (eqb (lengths .columns) 700)) (not (journalFits (heldIn lengths) journal (kept .used))) k
+      (four-given (not (pointsFit (lengths .points))) (not (eqb (lengths .columns) 700)) (not (variablesFit (lengths .integers) (lengths .flags) (lengths .firsts)))
+      (not (journalFits (heldIn lengths) journal (kept .used))) k
       (λ e. h (area-rows ∙ e)))
 
   pub record AreasPass : Type 0 where
     pub points : pointsFit (lengths .points) ≡ true
     pub columns : eqb (lengths .columns) 700 ≡ true
+    pub variables : variablesFit (lengths .integers) (lengths .flags) (lengths .firsts) ≡ true
     pub journal-fits : journalFits (heldIn lengths) journal (kept .used) ≡ true
 
   pub areas-pass : {k : ℕ} → areaNumber k ≡ 0 → AreasPass × (k ≡ 0)
   areas-pass {k} e =
       let h =
-      three-passed 2 (not (pointsFit (lengths .points))) (not (eqb (lengths .columns) 700)) (not (journalFits (heldIn lengths) journal (kept .used))) k
-      (omega arith)
+      four-passed (not (pointsFit (lengths .points))) (not (eqb (lengths .columns) 700)) (not (variablesFit (lengths .integers) (lengths .flags) (lengths .firsts)))
+      (not (journalFits (heldIn lengths) journal (kept .used))) k
       e in
-      (record { points = was-not (h .0); columns = was-not (h .1); journal-fits = was-not (h .2) }, h .3)
+      (record { points = was-not (h .0); columns = was-not (h .1); variables = was-not (h .2); journal-fits = was-not (h .3) }, h .4)
 
   pub past-areas : AreasPass → (k : ℕ) → areaNumber k ≡ k
-  past-areas p k = rw (p .points, p .columns, p .journal-fits)
+  past-areas p k = rw (p .points, p .columns, p .variables, p .journal-fits)
 
 module _ (station : ℕ) (frame : List ℕ) where
   abbrev pub frameNumber : ℕ → ℕ
@@ -117,24 +139,27 @@ module _ (reply : ℕ) (frame : List ℕ) (axes : Axes) (settings : Settings) (l
   -- where one is given it is below 101, and what comes behind is not looked at
   pub silent-given : (k : ℕ) → (silentNumber 0 ≡ 0 → ⊥) → (silentNumber k ≡ silentNumber 0) × (silentNumber 0 < 101)
   silent-given k h =
-      go (ltb reply 1024) (not (pointsFit (lengths .points))) (not (eqb (lengths .columns) 700)) (not (journalFits (heldIn lengths) journal (kept .used)))
+      go (ltb reply 1024) (not (pointsFit (lengths .points))) (not (eqb (lengths .columns) 700)) (not (variablesFit (lengths .integers) (lengths .flags) (lengths .firsts)))
+      (not (journalFits (heldIn lengths) journal (kept .used)))
       (not (axesFit axes (settings .fitted)))
       (not (shaped frame))
       (not (sumPasses frame))
       (not (stationPasses (settings .station) frame))
       h
     where
-      go : (o p q r s t u v : Bool) → (cond o 1 (three 2 p q r (cond s 5 (three 6 t u v 0))) ≡ 0 → ⊥)
-          → (cond o 1 (three 2 p q r (cond s 5 (three 6 t u v k))) ≡ cond o 1 (three 2 p q r (cond s 5 (three 6 t u v 0)))) × (cond o 1 (three 2 p q r (cond s 5 (three 6 t u v 0))) < 101)
-      go true p q r s t u v n = (refl, omega arith)
-      go false true q r s t u v n = (refl, omega arith)
-      go false false true r s t u v n = (refl, omega arith)
-      go false false false true s t u v n = (refl, omega arith)
-      go false false false false true t u v n = (refl, omega arith)
-      go false false false false false true u v n = (refl, omega arith)
-      go false false false false false false true v n = (refl, omega arith)
-      go false false false false false false false true n = (refl, omega arith)
-      go false false false false false false false false n = absurd (n refl)
+      go : (o p q w r s t u v : Bool) → (cond o 1 (four p q w r (cond s 5 (three 6 t u v 0))) ≡ 0 → ⊥)
+          → (cond o 1 (four p q w r (cond s 5 (three 6 t u v k))) ≡ cond o 1 (four p q w r (cond s 5 (three 6 t u v 0))))
+          × (cond o 1 (four p q w r (cond s 5 (three 6 t u v 0))) < 101)
+      go true p q w r s t u v n = (refl, omega arith)
+      go false true q w r s t u v n = (refl, omega arith)
+      go false false true w r s t u v n = (refl, omega arith)
+      go false false false true r s t u v n = (refl, omega arith)
+      go false false false false true s t u v n = (refl, omega arith)
+      go false false false false false true t u v n = (refl, omega arith)
+      go false false false false false false true u v n = (refl, omega arith)
+      go false false false false false false false true v n = (refl, omega arith)
+      go false false false false false false false false true n = (refl, omega arith)
+      go false false false false false false false false false n = absurd (n refl)
 
 -- a call's rows
 abbrev pub numberOf : Call → ℕ → ℕ
@@ -168,11 +193,15 @@ module _ (l : Lengths) (j : List ℕ) (kept : Kept) where
     area-3 f = sym (area-rows l j kept ∙ rw (e, ne-eqb _ _ f))
 
     module _ (f : l .columns ≡ 700) where
-      pub area-4 : journalFits (heldIn l) j (kept .used) ≡ false → 4 ≡ firstOf (areaRows l j kept)
-      area-4 g = sym (area-rows l j kept ∙ rw (e, eq-eqb _ _ f, g))
+      pub area-10 : variablesFit (l .integers) (l .flags) (l .firsts) ≡ false → 10 ≡ firstOf (areaRows l j kept)
+      area-10 v = sym (area-rows l j kept ∙ rw (e, eq-eqb _ _ f, v))
 
-      pub area-0 : journalFits (heldIn l) j (kept .used) ≡ true → 0 ≡ firstOf (areaRows l j kept)
-      area-0 g = sym (area-rows l j kept ∙ rw (e, eq-eqb _ _ f, g))
+      module _ (v : variablesFit (l .integers) (l .flags) (l .firsts) ≡ true) where
+        pub area-4 : journalFits (heldIn l) j (kept .used) ≡ false → 4 ≡ firstOf (areaRows l j kept)
+        area-4 g = sym (area-rows l j kept ∙ rw (e, eq-eqb _ _ f, v, g))
+
+        pub area-0 : journalFits (heldIn l) j (kept .used) ≡ true → 0 ≡ firstOf (areaRows l j kept)
+        area-0 g = sym (area-rows l j kept ∙ rw (e, eq-eqb _ _ f, v, g))
 
   -- no area is refused: what comes behind is looked at
   area-past : firstOf (areaRows l j kept) ≡ 0 → (k : ℕ) → areaNumber l j kept k ≡ k

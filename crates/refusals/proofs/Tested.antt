@@ -13,11 +13,12 @@ use Rattle.digits.proofs.Inverse.{and-left, and-right}
 use Rattle.frames.specs.Frame.{command, CR, LF, shaped}
 use Rattle.kinds.specs.declared.Held.{Held}
 use Rattle.kinds.specs.declared.Lengths.{Lengths}
+use Rattle.kinds.specs.declared.Firsts.{Firsts}
 use Rattle.kinds.specs.Kinds.{Sound, heldIn}
 use Rattle.journal.specs.Journal.{whole}
 use Rattle.axes.specs.declared.AxisRecord.{AxisRecord}
 use Rattle.axes.specs.Records.{zeroRecord}
-use Rattle.refusals.specs.Refusals.{pointsFit, leastJournal, journalFits, recordsFit}
+use Rattle.refusals.specs.Refusals.{pointsFit, variablesFit, leastJournal, journalFits, recordsFit}
 
 -- a shaped frame has ten bytes at least
 pub shaped-long : (f : List ℕ) → shaped f ≡ true → 10 ≤ length f
@@ -45,6 +46,29 @@ points-fit n e =
     let l : 40 ≤ n = leb-true _ _ (and-left b c (and-right a (b && c) e)) in
     let u : n ≤ 60000 = leb-true _ _ (and-right b c (and-right a (b && c) e)) in
     record { whole-slots = omega arith; some = omega arith; most = omega arith }
+
+-- the areas of variables, and numbers that fit into their fields
+pub record Variables (integers flags : ℕ) (firsts : Firsts) : Type 0 where
+  pub integers-long : integers ≡ 400
+  pub flags-long : flags ≡ 300
+  pub integer-last : firsts .integer + 99 ≤ 0xFFF
+  pub flag-last : firsts .flag + 299 ≤ 0xFFFF
+
+pub variables-fit : (integers flags : ℕ) (firsts : Firsts) → variablesFit integers flags firsts ≡ true → Variables integers flags firsts
+unfolding variablesFit
+variables-fit integers flags firsts e =
+    let a = eqb integers 400 in
+    let b = eqb flags 300 in
+    let c = leb (firsts .integer + 99) 0xFFF in
+    let d = leb (firsts .flag + 299) 0xFFFF in
+    let f = and-right a (b && (c && d)) e in
+    let g = and-right b (c && d) f in
+    record {
+      integers-long = eqb-true _ _ (and-left a (b && (c && d)) e);
+      flags-long = eqb-true _ _ (and-left b (c && d) f);
+      integer-last = leb-true _ _ (and-left c d g);
+      flag-last = leb-true _ _ (and-right c d g);
+    }
 
 pub record Journal (held : Held) (j : List ℕ) (used : ℕ) : Type 0 where
   pub least : leastJournal held ≤ length j
@@ -86,9 +110,12 @@ pub records-done : (rs : List AxisRecord) (i : ℕ) → length rs ≤ i → reco
 unfolding recordsFit
 records-done rs i h = rw (drop-of-length-le rs h)
 
--- a board whose points fit holds no more than it can
-pub sound : (l : Lengths) → pointsFit (l .points) ≡ true → Sound (heldIn l)
-sound l e = let p = points-fit (l .points) e in record { some-points = p .some; points = p .most }
+-- a board whose points and variables fit holds no more than it can
+pub sound : (l : Lengths) → pointsFit (l .points) ≡ true → variablesFit (l .integers) (l .flags) (l .firsts) ≡ true → Sound (heldIn l)
+sound l e f =
+    let p = points-fit (l .points) e in
+    let v = variables-fit (l .integers) (l .flags) (l .firsts) f in
+    record { some-points = p .some; points = p .most; integers = v .integer-last; flags = v .flag-last }
 
 -- what is held, as it was worked out
 pub same-sound : {h h′ : Held} → h ≡ h′ → Sound h′ → Sound h

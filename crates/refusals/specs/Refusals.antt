@@ -1,4 +1,5 @@
--- Document 01, "Refusal numbers, in the order tested": 1 to 9 here, 101 to 107 by `askedRows` of messages. Nothing else decides a number.
+-- Document 01, "Refusal numbers, in the order tested", and document 02, request a: 1 to 10 here, 101 to 108 by `askedRows` of messages. Nothing else
+-- decides a number.
 use Prim.Native.Nat.{ℕ, _+_, _*_, _%_}
 use mathlib.Core.Bool.{Bool, true, not, _&&_}
 use mathlib.Core.List.{List, [], _∷_, _++_}
@@ -16,15 +17,22 @@ use Rattle.messages.specs.Asked.{askedRows}
 use Rattle.calls.specs.declared.Settings.{Settings}
 use Rattle.calls.specs.declared.Kept.{Kept}
 use Rattle.kinds.specs.declared.Lengths.{Lengths}
+use Rattle.kinds.specs.declared.Firsts.{Firsts}
 use Rattle.calls.specs.Calls.{Areas, Call, lengthsOf}
 
 -- 2: the points area is "a multiple of 40 from 40 to 60,000"
 unfoldable pub pointsFit : ℕ → Bool
 pointsFit points = eqb (points % 40) 0 && (leb 40 points && leb points 60000)
 
--- the least journal of a board that holds so much ("Journal": "an area of 40·N+300 to 65,536 bytes")
+-- 10: "a wrong new area or a setting that runs past the field's range" (02, a): 100 integers of four bytes and a number of three digits, 300 flags of
+-- one byte and a number of four
+unfoldable pub variablesFit : ℕ → ℕ → Firsts → Bool
+variablesFit integers flags firsts =
+    eqb integers 400 && (eqb flags 300 && (leb (firsts .integer + 99) 0xFFF && leb (firsts .flag + 299) 0xFFFF))
+
+-- the least journal of a board that holds so much: "The journal's least length becomes 40·N+500" (02, a)
 abbrev pub leastJournal : Held → ℕ
-leastJournal held = 40 * held .points + 300
+leastJournal held = 40 * held .points + 500
 
 -- 4: the journal's length, the used length, and "whole well-formed entries"
 unfoldable pub journalFits : Held → List ℕ → ℕ → Bool
@@ -40,11 +48,12 @@ recordsFit (r ∷ records) = leb (r .sensor) 15 && (leb (r .error) 4095 && recor
 unfoldable pub axesFit : Axes → ℕ → Bool
 axesFit axes fitted = axes .eight && (recordsFit (axes .records) && not (eqb fitted 0))
 
--- 2, 3 and 4: the areas, of a frame and of a step back
+-- 2, 3, 10 ("tested after 3", 02, a) and 4: the areas, of a frame and of a step back
 unfoldable pub areaRows : Lengths → List ℕ → Kept → List Row
 areaRows lengths journal kept =
     (2 when (not (pointsFit (lengths .points))))
     ∷ (3 when (not (eqb (lengths .columns) 700)))
+    ∷ (10 when (not (variablesFit (lengths .integers) (lengths .flags) (lengths .firsts))))
     ∷ (4 when (not (journalFits (heldIn lengths) journal (kept .used))))
     ∷ []
 
@@ -56,7 +65,7 @@ frameRows station frame =
     ∷ (8 when (not (stationPasses station frame)))
     ∷ []
 
--- 1 to 8: a frame's refusals without a reply, with a reply area of so many bytes
+-- 1 to 8 and 10: a frame's refusals without a reply, with a reply area of so many bytes
 unfoldable pub silentRows : ℕ → List ℕ → Axes → Settings → Lengths → List ℕ → Kept → List Row
 silentRows reply frame axes settings lengths journal kept =
     (1 when (ltb reply 1024))
@@ -69,14 +78,14 @@ silent c =
 unfoldable pub silentOf : Call → ℕ
 silentOf c = firstOf (silent c)
 
--- a frame's refusal: 1 to 8, then 101 to 107
+-- a frame's refusal: 1 to 8 and 10, then 101 to 108
 unfoldable pub refusalOf : Call → ℕ
 refusalOf c =
     firstOf
     (silent c
     ++ askedRows (heldIn (lengthsOf (c .areas))) (c .sent .settings .fitted) (messageOf (c .sent .frame)) (contentIn (c .sent .frame)))
 
--- "The step back tests 2, 3, 4, then 9."
+-- "The step back tests 2, 3, 4, then 9", and 10 after 3 (02, a)
 unfoldable pub backRows : Lengths → List ℕ → Kept → List Row
 backRows lengths journal kept = areaRows lengths journal kept ++ ((9 when (eqb (kept .used) 0)) ∷ [])
 

@@ -1,4 +1,4 @@
-// The tests behind the refusals without a reply, and the step back's (document 01, "Refusal numbers, in the order tested").
+// The tests behind the refusals without a reply, and the step back's (document 01, "Refusal numbers, in the order tested"; document 02, a: 10).
 use axes::Axes;
 use axes::AxisRecord;
 use calls::Kept;
@@ -7,6 +7,7 @@ use frames::checks::is_ours;
 use frames::checks::is_shaped;
 use frames::checks::passes_sum;
 use journal::is_whole;
+use kinds::Firsts;
 use kinds::Held;
 use kinds::Lengths;
 use kinds::held_in;
@@ -14,7 +15,7 @@ use points::point::Point;
 ghost use mathlib.Core.Path.{_≡_};
 ghost use Rattle.kinds.specs.Kinds.{Sound};
 ghost use Rattle.messages.specs.Rows.{firstOf};
-ghost use Rattle.refusals.specs.Refusals.{pointsFit, journalFits, recordsFit, axesFit, areaRows, frameRows, silentRows, backRows};
+ghost use Rattle.refusals.specs.Refusals.{pointsFit, variablesFit, journalFits, recordsFit, axesFit, areaRows, frameRows, silentRows, backRows};
 
 // Refusal 2, passed: a multiple of 40 from 40 to 60,000.
 fn fits_points(points: usize) -> bool
@@ -29,12 +30,28 @@ fn fits_points(points: usize) -> bool
     points <= 60000
 }
 
+// Refusal 10, passed: 400 bytes of integers, 300 of flags, and last numbers that fit into their fields.
+fn fits_variables(integers: usize, flags: usize, firsts: Firsts) -> bool
+    ensures { λ r. ⌜ r ≡ variablesFit integers flags firsts ⌝ }
+{
+    if integers != 400 {
+        return false;
+    }
+    if flags != 300 {
+        return false;
+    }
+    if firsts.integer as usize + 99 > 0xFFF {
+        return false;
+    }
+    firsts.flag as usize + 299 <= 0xFFFF
+}
+
 // Refusal 4, passed: the journal's length, the used length, and whole well-formed entries.
 fn fits_journal(journal: &[u8], used: usize, held: Held) -> bool
     requires { ⌜ Sound held ⌝ }
     ensures { λ r. ⌜ r ≡ journalFits held (now (journal .entry)) used ⌝ }
 {
-    if journal.len() < 40 * held.points + 300 {
+    if journal.len() < 40 * held.points + 500 {
         return false;
     }
     if journal.len() > 65536 {
@@ -78,7 +95,7 @@ fn fits_axes(axes: Axes, fitted: u8) -> bool
     fitted != 0
 }
 
-// Tests 2, 3 and 4, of a frame and of a step back: the refusal, or 0.
+// Tests 2, 3, 10 and 4, of a frame and of a step back: the refusal, or 0.
 fn area_refusal(lengths: Lengths, journal: &[u8], kept: Kept) -> u16
     ensures { λ r. ⌜ r ≡ firstOf (areaRows lengths (now (journal .entry)) kept) ⌝ }
 {
@@ -87,6 +104,10 @@ fn area_refusal(lengths: Lengths, journal: &[u8], kept: Kept) -> u16
     }
     if lengths.columns != 700 {
         return 3;
+    }
+    let firsts = lengths.firsts;
+    if !fits_variables(lengths.integers, lengths.flags, firsts) {
+        return 10;
     }
     if !fits_journal(journal, kept.used, held_in(lengths)) {
         return 4;
@@ -110,7 +131,7 @@ fn frame_refusal(frame: &[u8], station: u8) -> u16
     0
 }
 
-// The refusal without a reply, 1 to 8, or 0, with a reply area of so many bytes.
+// The refusal without a reply, 1 to 8 or 10, or 0, with a reply area of so many bytes.
 pub fn silent(
     reply: usize,
     frame: &[u8],
@@ -135,7 +156,7 @@ pub fn silent(
     frame_refusal(frame, settings.station)
 }
 
-// The step back's refusal: 2, 3, 4, then 9, or 0.
+// The step back's refusal: 2, 3, 10, 4, then 9, or 0.
 pub fn back_refusal(lengths: Lengths, journal: &[u8], kept: Kept) -> u16
     ensures { λ r. ⌜ r ≡ firstOf (backRows lengths (now (journal .entry)) kept) ⌝ }
 {

@@ -1,5 +1,5 @@
--- Document 01, "What the board answers" and "Each message"; source document 000, sections 4-3-2 to 4-3-30: which frames are commands, and the
--- fields of each.
+-- Document 01, "What the board answers" and "Each message", and document 02, request a; source document 000, sections 4-3-2 to 4-3-30: which frames
+-- are commands, and the fields of each.
 use Prim.Native.Nat.{ℕ, zero, suc, _+_, _*_, _≤_}
 use mathlib.Core.Bool.{Bool, true, false, cond, not, _&&_}
 use mathlib.Core.List.{List, [], _∷_}
@@ -9,12 +9,12 @@ use lib.ListN.{length, take, drop}
 use Rattle.digits.specs.Digits.{allDigits, numberOf}
 use Rattle.frames.specs.Frame.{messageIn}
 use Rattle.kinds.specs.declared.Held.{Held}
-use Rattle.kinds.specs.Kinds.{pointsTag, columnsTag, kindOf}
+use Rattle.kinds.specs.Kinds.{pointsTag, columnsTag, integersTag, flagsTag, kindOf}
 use Rattle.points.specs.Point.{lengthOf, fillsOf}
 use Rattle.table.specs.declared.Follows.{Follows}
-use Rattle.table.specs.declared.Follows.the-variants.{Nothing, TenBytes, AxisPattern, Points, RunBytes}
+use Rattle.table.specs.declared.Follows.the-variants.{Nothing, TenBytes, AxisPattern, Points, RunBytes, ChangeType}
 use Rattle.table.specs.declared.Action.{Action}
-use Rattle.table.specs.declared.Action.the-variants.{SayBack, CountPoints, ListPoints, ReadRun, AxisStatus, WritePoints, ClearRun, ChangeRun}
+use Rattle.table.specs.declared.Action.the-variants.{SayBack, CountPoints, ListPoints, ReadRun, AxisStatus, WritePoints, ClearRun, ChangeRun, ShowFlags, SetFlag}
 use Rattle.table.specs.declared.Message.{Message}
 use Rattle.table.specs.declared.Named.{Named}
 use Rattle.table.specs.declared.Named.the-variants.{Known, Unknown}
@@ -26,16 +26,20 @@ row id program start count tag follows does repeats =
     record { id = id; program = program; start = start; count = count; tag = tag; follows = follows; does = does; repeats = repeats }
 
 -- "Messages: 200H test call, 208H number of effective points, 209H effective point query, 210H string query, 212H axis status, 244H point range
--- write, 246H point clear, 24EH string change."
+-- write, 246H point clear, 24EH string change."; "20DH, 20EH, 24BH and 24CH" (02, a): flags and integers asked for, a flag set, integers changed
 abbrev pub messages : List Message
 messages =
     row 0x200 0 0 0 0 TenBytes SayBack false
     ∷ row 0x208 0 0 0 0 Nothing CountPoints false
     ∷ row 0x209 0 3 3 pointsTag Nothing ListPoints false
+    ∷ row 0x20D 2 4 4 flagsTag Nothing ShowFlags true
+    ∷ row 0x20E 2 3 2 integersTag Nothing ReadRun true
     ∷ row 0x210 2 3 2 columnsTag Nothing ReadRun true
     ∷ row 0x212 0 0 0 0 AxisPattern AxisStatus false
     ∷ row 0x244 0 3 3 pointsTag Points WritePoints true
     ∷ row 0x246 0 3 3 pointsTag Nothing ClearRun false
+    ∷ row 0x24B 2 4 0 flagsTag ChangeType SetFlag false
+    ∷ row 0x24C 2 3 2 integersTag RunBytes ChangeRun true
     ∷ row 0x24E 2 3 2 columnsTag RunBytes ChangeRun false
     ∷ []
 
@@ -60,20 +64,22 @@ programIn m content = numberOf (take (m .program) content)
 abbrev pub startIn : Message → List ℕ → ℕ
 startIn m content = numberOf (take (m .start) (drop (m .program) content))
 
+-- "24BH, which has no count" (02, a), names one
 abbrev pub countIn : Message → List ℕ → ℕ
-countIn m content = numberOf (take (m .count) (drop (m .program + m .start) content))
+countIn m content = cond (eqb (m .count) 0) 1 (numberOf (take (m .count) (drop (m .program + m .start) content)))
 
 abbrev pub restIn : Message → List ℕ → List ℕ
 restIn m content = drop (fieldsOf m) content
 
 -- what follows is as long as this message's (refusal 103): none, "ten bytes", "axis pattern 2 digits", "exactly count points, each as long as its
--- own pattern says", two digits for each byte of the run
+-- own pattern says", two digits for each byte of the run, "change type 1" (24BH)
 abbrev pub followsRight : Follows → ℕ → ℕ → List ℕ → Bool
 followsRight Nothing unit count rest = eqb (length rest) 0
 followsRight TenBytes unit count rest = eqb (length rest) 10
 followsRight AxisPattern unit count rest = eqb (length rest) 2
 followsRight Points unit count rest = fillsOf count rest
 followsRight RunBytes unit count rest = eqb (length rest) (2 * (count * unit))
+followsRight ChangeType unit count rest = eqb (length rest) 1
 
 abbrev pub lengthRight : Held → Message → List ℕ → Bool
 lengthRight held m content =
@@ -86,6 +92,7 @@ anyBytes TenBytes = true
 anyBytes AxisPattern = false
 anyBytes Points = false
 anyBytes RunBytes = false
+anyBytes ChangeType = false
 
 -- "in 244H" (refusal 107): points follow
 abbrev pub havePoints : Follows → Bool
@@ -94,6 +101,16 @@ havePoints TenBytes = false
 havePoints AxisPattern = false
 havePoints Points = true
 havePoints RunBytes = false
+havePoints ChangeType = false
+
+-- in 24BH (refusal 108): a change type follows
+abbrev pub haveType : Follows → Bool
+haveType Nothing = false
+haveType TenBytes = false
+haveType AxisPattern = false
+haveType Points = false
+haveType RunBytes = false
+haveType ChangeType = true
 
 -- neither "a pattern 00" nor one "with an unfitted axis" (refusal 107)
 unfoldable pub patternFits : ℕ → ℕ → Bool

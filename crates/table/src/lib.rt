@@ -1,8 +1,8 @@
-// The messages that the board answers, a row each (document 01, "What the board answers" and "Each message").
+// The messages that the board answers, a row each (document 01, "What the board answers" and "Each message"; document 02, a).
 use kinds::Kind;
 ghost use mathlib.Core.Path.{_≡_};
 ghost use mathlib.Core.Bool.{false};
-ghost use Rattle.kinds.specs.Kinds.{pointsTag};
+ghost use Rattle.kinds.specs.Kinds.{pointsTag, flagsTag};
 ghost use Rattle.table.specs.declared.Named.the-variants.{Known};
 ghost use Rattle.table.specs.Table.{row, messageNumbered};
 
@@ -13,6 +13,7 @@ pub enum Follows {
     AxisPattern,
     Points,
     RunBytes,
+    ChangeType,
 }
 
 // What a message has the board do.
@@ -25,6 +26,8 @@ pub enum Action {
     WritePoints,
     ClearRun,
     ChangeRun,
+    ShowFlags,
+    SetFlag,
 }
 
 // A row: the ID, how many digits program, start and count have, the tag of the kind that it names, what follows these
@@ -97,6 +100,23 @@ fn of_run(id: u16, tag: u8, follows: Follows, does: Action, repeats: bool) -> Na
     Named::Known { message }
 }
 
+// A message of flags: program 2, start 4, and a count of so many digits.
+fn of_flags(id: u16, count: usize, follows: Follows, does: Action, repeats: bool) -> Named
+    ensures { λ r. ⌜ r ≡ Known (row id 2 4 count flagsTag follows does repeats) ⌝ }
+{
+    let message = Message {
+        id,
+        program: 2,
+        start: 4,
+        count,
+        tag: Kind::FLAGS,
+        follows,
+        does,
+        repeats,
+    };
+    Named::Known { message }
+}
+
 // The message of an ID: the table.
 pub fn numbered(id: u64) -> Named
     ensures { λ r. ⌜ r ≡ messageNumbered id ⌝ }
@@ -105,6 +125,14 @@ pub fn numbered(id: u64) -> Named
         0x200 => plain(0x200, Follows::TenBytes, Action::SayBack),
         0x208 => plain(0x208, Follows::Nothing, Action::CountPoints),
         0x209 => of_points(0x209, Follows::Nothing, Action::ListPoints, false),
+        0x20d => of_flags(0x20d, 4, Follows::Nothing, Action::ShowFlags, true),
+        0x20e => of_run(
+            0x20e,
+            Kind::INTEGERS,
+            Follows::Nothing,
+            Action::ReadRun,
+            true,
+        ),
         0x210 => of_run(
             0x210,
             Kind::COLUMNS,
@@ -115,6 +143,14 @@ pub fn numbered(id: u64) -> Named
         0x212 => plain(0x212, Follows::AxisPattern, Action::AxisStatus),
         0x244 => of_points(0x244, Follows::Points, Action::WritePoints, true),
         0x246 => of_points(0x246, Follows::Nothing, Action::ClearRun, false),
+        0x24b => of_flags(0x24b, 0, Follows::ChangeType, Action::SetFlag, false),
+        0x24c => of_run(
+            0x24c,
+            Kind::INTEGERS,
+            Follows::RunBytes,
+            Action::ChangeRun,
+            true,
+        ),
         0x24e => of_run(
             0x24e,
             Kind::COLUMNS,

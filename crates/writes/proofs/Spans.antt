@@ -1,12 +1,13 @@
 -- What a board that can be written assures of the run that is named: its place, its bytes, and a good entry.
 use Prim.Native.Nat.{ℕ, _+_, _-_, _*_, _≤_, _<_}
 use mathlib.Core.Path.{_≡_, refl, sym, ap, _∙_}
-use mathlib.Core.List.{List}
+use mathlib.Core.List.{List, [], _∷_}
 use native.Mathlib.Omega.{arith}
 use native.Mathlib.Nat.{add-sub-cancel-left}
-use lib.ListN.{length, take, drop}
+use lib.ListN.{length, take, drop, getD}
 use Rattle.kinds.specs.declared.Kind.{Kind}
 use Rattle.kinds.specs.declared.Held.{Held}
+use Rattle.digits.specs.Digits.{worthOf, numberOf}
 use Rattle.digits.specs.Laid.{laid}
 use Rattle.kinds.specs.Kinds.{kindOf, runOf, put, placeOf, sizeOf}
 use Rattle.kinds.proofs.Known.{Sized, sized, within, room, run-length}
@@ -44,3 +45,9 @@ lent k start count at area e = rw (e, add-sub-cancel-left (placeOf k start) (cou
 pub put-at : (area bytes : List ℕ) {area′ : List ℕ} {at : ℕ} (k : Kind) (start : ℕ) → area′ ≡ laid area at bytes → at ≡ placeOf k start → area′ ≡ put k start bytes area
 unfolding put
 put-at area bytes k start e f = cc
+
+-- what one digit is worth is the number that it writes
+pub one-digit : (digits : List ℕ) {value : ℕ} → length digits ≡ 1 → value ≡ worthOf (getD digits 0 0) → value ≡ numberOf digits
+one-digit [] l e = absurd (omega arith)
+one-digit (digit ∷ []) l e = omega (arith, e)
+one-digit (digit ∷ another ∷ digits) l e = absurd (omega arith)

@@ -1,4 +1,5 @@
--- Document 01, "Each message" and "Journal": 244H, 246H and 24EH write a run of one kind, and each adds one entry with what stood there.
+-- Document 01, "Each message" and "Journal", and document 02, request a: 244H, 246H, 24EH, 24BH and 24CH write a run of one kind, and each adds one
+-- entry with what stood there.
 use Prim.Native.Nat.{ℕ, _+_, _*_, _≤_}
 use mathlib.Core.Path.{_≡_}
 use mathlib.Core.Bool.{true}

@@ -7,9 +7,11 @@ use pairs::set_bytes;
 use slots::lay_points;
 ghost use mathlib.Core.Path.{_≡_};
 ghost use mathlib.Core.Bool.{true};
-ghost use Prim.Native.Nat.{_+_, _*_};
+ghost use mathlib.Core.List.{[], _∷_};
+ghost use Prim.Native.Nat.{_+_, _*_, _<_};
 ghost use lib.ListN.{length, replicate};
-ghost use Rattle.digits.specs.Digits.{allDigits};
+ghost use Rattle.digits.specs.Digits.{allDigits, numberOf};
+ghost use Rattle.digits.specs.Laid.{laid};
 ghost use Rattle.pairs.specs.Pairs.{bytesIn};
 ghost use Rattle.points.specs.Point.{fillsOf, slotsOf};
 ghost use Rattle.writes.specs.Writes.{Ready, Entered, Written};
@@ -90,5 +92,34 @@ pub fn change(
 {
     let left = enter(area, journal, used, held, k, start, count);
     set_bytes(area, k.place(start), digits, count * k.unit);
+    left
+}
+
+fn put_byte(area: &mut [u8], at: usize, b: u8)
+    requires { ⌜ at < length (now area) ⌝ }
+    ensures { λ _. ⌜ now (area .exit) ≡ laid (now (area .entry)) at (b ∷ []) ⌝ }
+{
+    area[at] = b;
+}
+
+// 24BH: one flag set to what its change type says. The new used length.
+pub fn set_flag(
+    area: &mut [u8],
+    journal: &mut [u8],
+    used: usize,
+    held: Held,
+    k: Kind,
+    start: usize,
+    digits: &[u8],
+) -> usize
+    requires { ⌜ (k .unit ≡ 1) × (allDigits (now digits) ≡ true) × (length (now digits) ≡ 1) ⌝ }
+    requires { ⌜ Ready held k start 1 (now area) (now journal) used ⌝ }
+    ensures { λ r. ⌜ Written held k start 1 (numberOf (now (digits .entry)) ∷ [])
+        (now (area .entry)) (now (area .exit)) (now (journal .entry)) (now (journal .exit)) used r ⌝ }
+{
+    let left = enter(area, journal, used, held, k, start, 1);
+    let digit = digits[0];
+    let value = digits::worth(digit);
+    put_byte(area, k.place(start), value);
     left
 }

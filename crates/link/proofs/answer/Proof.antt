@@ -14,11 +14,11 @@ use Rattle.link.proofs.answer.Tie as tie
 abbrev call : tie.Start → Call
 call s =
     callOf (s .args .frame .now) (s .args .axes) (s .args .settings) (s .args .reply .now)
-    (areasOf (s .args .points .now) (s .args .columns .now) (s .args .journal .now) (s .args .kept))
+    (areasOf (s .args .points .now) (s .args .columns .now) (s .args .integers .now) (s .args .flags .now) (s .args .journal .now) (s .args .kept) (s .args .firsts))
 
 -- the function's entry, from where no refusal without a reply holds
 abbrev start : tie.Else1 → tie.Start
-start g = g .before .before .before .before .before .before .before .before
+start g = g .before .before .before .before .before .before .before .before .before .before
 
 heard : (g : tie.Else1) → silentOf (call (start g)) ≡ 0
 heard g = silent-first (call (start g)) ∙ sym (g .before .silent .ensures) ∙ g .if1 .left
@@ -30,7 +30,7 @@ same-length : tie.Need-same-length
 same-length c = search needs
 
 returns : tie.Need-returns
-returns c = let s = c .before .before .before .before .before .before .before .before in answered-silent (call s) _ (c .before .silent .ensures ∙ sym (silent-first (call s))) (c .if1 .taken)
+returns c = let s = c .before .before .before .before .before .before .before .before .before .before in answered-silent (call s) _ (c .before .silent .ensures ∙ sym (silent-first (call s))) (c .if1 .taken)
 
 held-in-requires : tie.Need-held-in-requires
 held-in-requires c κs = search needs
@@ -48,7 +48,8 @@ enum-known-asked-2 : tie.Need-enum-known-asked-2
 enum-known-asked-2 c = search needs
 
 carry-out-requires : tie.Need-carry-out-requires
-carry-out-requires c κs = let g = c .before .before .before .before .before .before .before .before .before in record { silent-0 = heard g; order = same-asked _ _ (sym (c .before .before .before .before .before .asked2 .given .1) ∙ c .before .before .before .before .before .before .before .judge .ensures) (c .before .before .before .before .before .before .before .before .held-in .ensures) }
+carry-out-requires c κs = let g = c .before .before .before .before .before .before .before .before .before .before .before in
+    record { silent-0 = heard g; order = same-asked _ _ (sym (c .before .before .before .before .before .before .before .asked2 .given .1) ∙ c .before .before .before .before .before .before .before .before .before .judge .ensures) (c .before .before .before .before .before .before .before .before .before .before .held-in .ensures) }
 
 same-length-2 : tie.Need-same-length-2
 same-length-2 c = search needs
@@ -58,7 +59,8 @@ same-length-3 c = search needs
 
 returns-2 : tie.Need-returns-2
 returns-2 c = let g = c .before .before .before .before .before .before .before .before .before in
-    answered-refused (call (start g)) _ _ _ (heard g) (same-asked _ _ (sym (c .before .before .before .before .before .asked .given .1) ∙ c .before .before .before .before .before .before .before .judge .ensures) (c .before .before .before .before .before .before .before .before .held-in .ensures)) (c .before .before .refuse .ensures .0) (c .before .before .refuse .ensures .1)
+    answered-refused (call (start g)) _ _ _ (heard g) (same-asked _ _ (sym (c .before .before .before .before .before .asked .given .1) ∙ c .before .before .before .before .before .before .before .judge .ensures) (c .before .before .before .before .before .before .before .before .held-in .ensures)) (c .before .before .refuse .ensures .0)
+    (c .before .before .refuse .ensures .1)
 
 same-length-4 : tie.Need-same-length-4
 same-length-4 c = search needs
@@ -71,6 +73,12 @@ same-length-6 c = search needs
 
 same-length-7 : tie.Need-same-length-7
 same-length-7 c = search needs
+
+same-length-8 : tie.Need-same-length-8
+same-length-8 c = search needs
+
+same-length-9 : tie.Need-same-length-9
+same-length-9 c = search needs
 
 returns-3 : tie.Need-returns-3
 returns-3 c = search needs
@@ -95,4 +103,6 @@ answer-spec =
     same-length-5
     same-length-6
     same-length-7
+    same-length-8
+    same-length-9
     returns-3)

@@ -1,7 +1,7 @@
 use mathlib.Core.Path.{_≡_, refl, sym, ap, _∙_}
 use native.Mathlib.Omega.{arith}
-use Rattle.kinds.specs.Kinds.{pointsTag, columnsTag, sizeOf}
-use Rattle.kinds.proofs.Known.{kind-points, kind-columns}
+use Rattle.kinds.specs.Kinds.{pointsTag, columnsTag, integersTag, flagsTag, sizeOf}
+use Rattle.kinds.proofs.Known.{kind-points, kind-columns, kind-integers, kind-flags}
 use Rattle.link.proofs.Backing.{restore-needs, same-puts}
 use borrow.Author.Needs.{needs}
 use Rattle.link.proofs.put_back.Statement.{statement}
@@ -11,13 +11,25 @@ kind-requires : tie.Need-kind-requires
 kind-requires c κs = search needs
 
 restore-requires : tie.Need-restore-requires
-restore-requires c κs = let s = c .before .before .before .before .before in restore-needs (s .args .held) pointsTag _ _ _ (s .args .points .now) (s .pre .0 .0) (s .pre .0 .1) (c .kind .ensures) (s .pre .1 .0 ∙ ap sizeOf (sym (kind-points (s .args .held))))
+restore-requires c κs = let s = c .before .before .before .before .before .before .before in restore-needs (s .args .held) pointsTag _ _ _ (s .args .points .now) (s .pre .0 .0) (s .pre .0 .1) (c .kind .ensures) (s .pre .1 .0 ∙ ap sizeOf (sym (kind-points (s .args .held))))
 
 kind-requires-2 : tie.Need-kind-requires-2
 kind-requires-2 c κs = search needs
 
 restore-requires-2 : tie.Need-restore-requires-2
-restore-requires-2 c κs = let s = c .before .before .before .before .before .before .before .before .before .before in restore-needs (s .args .held) columnsTag _ _ _ (s .args .columns .now) (s .pre .0 .0) (s .pre .0 .1) (c .kind2 .ensures) (s .pre .1 .1 ∙ ap sizeOf (sym (kind-columns (s .args .held))))
+restore-requires-2 c κs = let s = c .before .before .before .before .before .before .before .before .before .before .before .before in restore-needs (s .args .held) columnsTag _ _ _ (s .args .columns .now) (s .pre .0 .0) (s .pre .0 .1) (c .kind2 .ensures) (s .pre .1 .1 ∙ ap sizeOf (sym (kind-columns (s .args .held))))
+
+kind-requires-3 : tie.Need-kind-requires-3
+kind-requires-3 c κs = search needs
+
+restore-requires-3 : tie.Need-restore-requires-3
+restore-requires-3 c κs = let s = c .before .before .before .before .before .before .before .before .before .before .before .before .before .before .before .before .before in restore-needs (s .args .held) integersTag _ _ _ (s .args .integers .now) (s .pre .0 .0) (s .pre .0 .1) (c .kind3 .ensures) (s .pre .1 .2 ∙ ap sizeOf (sym (kind-integers (s .args .held))))
+
+kind-requires-4 : tie.Need-kind-requires-4
+kind-requires-4 c κs = search needs
+
+restore-requires-4 : tie.Need-restore-requires-4
+restore-requires-4 c κs = let s = c .before .before .before .before .before .before .before .before .before .before .before .before .before .before .before .before .before .before .before .before .before .before in restore-needs (s .args .held) flagsTag _ _ _ (s .args .flags .now) (s .pre .0 .0) (s .pre .0 .1) (c .kind4 .ensures) (s .pre .1 .3 ∙ ap sizeOf (sym (kind-flags (s .args .held))))
 
 same-length : tie.Need-same-length
 same-length c = search needs
@@ -25,8 +37,19 @@ same-length c = search needs
 same-length-2 : tie.Need-same-length-2
 same-length-2 c = search needs
 
+same-length-3 : tie.Need-same-length-3
+same-length-3 c = search needs
+
+same-length-4 : tie.Need-same-length-4
+same-length-4 c = search needs
+
 returns : tie.Need-returns
-returns c = let s = c .before .before .before .before .before .before .before .before .before .before .before .before .before in (same-puts _ (c .before .before .before .before .before .before .before .restore .ensures) (c .before .before .before .before .before .before .before .before .kind .ensures ∙ kind-points (s .args .held)) refl, same-puts _ (c .before .before .restore2 .ensures) (c .before .before .before .kind2 .ensures ∙ kind-columns (s .args .held)) refl)
+returns c = let s = c .before .before .before .before .before .before .before .before .before .before .before .before .before .before .before .before .before .before .before .before .before .before .before .before .before in (
+  same-puts _ (c .before .before .before .before .before .before .before .before .before .before .before .before .before .before .before .before .before .restore .ensures) (c .before .before .before .before .before .before .before .before .before .before .before .before .before .before .before .before .before .before .kind .ensures ∙ kind-points (s .args .held)) refl,
+  same-puts _ (c .before .before .before .before .before .before .before .before .before .before .before .before .restore2 .ensures) (c .before .before .before .before .before .before .before .before .before .before .before .before .before .kind2 .ensures ∙ kind-columns (s .args .held)) refl,
+  same-puts _ (c .before .before .before .before .before .before .before .restore3 .ensures) (c .before .before .before .before .before .before .before .before .kind3 .ensures ∙ kind-integers (s .args .held)) refl,
+  same-puts _ (c .before .before .restore4 .ensures) (c .before .before .before .kind4 .ensures ∙ kind-flags (s .args .held)) refl,
+)
 
 pub put-back-spec : {M : Type 1} → statement M
 put-back-spec =
@@ -36,6 +59,12 @@ put-back-spec =
     restore-requires
     kind-requires-2
     restore-requires-2
+    kind-requires-3
+    restore-requires-3
+    kind-requires-4
+    restore-requires-4
     same-length
     same-length-2
+    same-length-3
+    same-length-4
     returns)

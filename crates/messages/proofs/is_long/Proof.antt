@@ -29,6 +29,9 @@ mul-result c = search needs
 mul-result-2 : tie.Need-mul-result-2
 mul-result-2 c = search needs
 
+enum-told-6 : tie.Need-enum-told-6
+enum-told-6 c = search needs
+
 returns : tie.Need-returns
 returns c = rw (c .enum-told .given .1)
 
@@ -44,6 +47,9 @@ returns-4 c = rw (c .before .enum-told4 .given .1) (c .fills .ensures)
 returns-5 : tie.Need-returns-5
 returns-5 c = rw (c .enum-told5 .given .1)
 
+returns-6 : tie.Need-returns-6
+returns-6 c = rw (c .enum-told6 .given .1)
+
 pub is-long-spec : {M : Type 1} → statement M
 is-long-spec =
     tie.close
@@ -56,8 +62,10 @@ is-long-spec =
     enum-told-5
     mul-result
     mul-result-2
+    enum-told-6
     returns
     returns-2
     returns-3
     returns-4
-    returns-5)
+    returns-5
+    returns-6)

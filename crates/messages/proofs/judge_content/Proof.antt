@@ -14,8 +14,8 @@ use Rattle.kinds.proofs.Known.{sized}
 use Rattle.points.proofs.Parts.{all-drop}
 use Rattle.table.specs.declared.Message.{Message}
 use Rattle.table.specs.Table.{fieldsOf, programIn, startIn, countIn, restIn, followsRight, havePoints}
-use Rattle.messages.specs.Asked.{notDigits, countZero, notHeld, wrongPattern}
-use Rattle.messages.proofs.Judged.{points-written, filled, same-long, same-none, same-beyond, same-unfit, same-fills, same-order, at-102, too-short, at-103, at-104, at-105, at-106, at-107, at-order}
+use Rattle.messages.specs.Asked.{notDigits, countZero, notHeld, wrongPattern, wrongType}
+use Rattle.messages.proofs.Judged.{points-written, filled, one-digit, same-long, same-none, same-beyond, same-unfit, same-unlisted, same-fills, same-order, at-102, too-short, at-103, at-104, at-105, at-106, at-107, at-108, at-order}
 use borrow.Author.Needs.{needs}
 use Rattle.messages.proofs.judge_content.Statement.{statement}
 use Rattle.messages.proofs.judge_content.Tie as tie
@@ -66,6 +66,14 @@ unfit : (c : tie.After-is-unfit)
 unfit c =
     let r = c .before .before .before .before .before .before .before .before .before in
     same-unfit (start r .args .m .follows) (start r .args .fitted) (c .is-unfit .ensures) (r .before .before .read-numbers .ensures .0 .2) (part-rest (text r) (fieldsOf (start r .args .m)))
+
+unlisted : (c : tie.After-is-unlisted)
+    → c .is-unlisted .result
+    ≡ wrongType (start (c .before .before .before .before .before .before .before .before .before .before .before) .args .m)
+    (text (c .before .before .before .before .before .before .before .before .before .before .before))
+unlisted c =
+    let r = c .before .before .before .before .before .before .before .before .before .before .before in
+    same-unlisted (start r .args .m .follows) (c .is-unlisted .ensures) (part-rest (text r) (fieldsOf (start r .args .m)))
 
 is-written-requires : tie.Need-is-written-requires
 is-written-requires c κs = search needs
@@ -160,12 +168,25 @@ returns-7 c =
     let a = start r .args in
     at-107 (a .held) (a .fitted) (a .m) (text r) (digits r) (room r) (was-true (long (c .before .before .before .before .before .before .before .before .before)) (c .before .before .before .before .before .before .before .before .if3 .left)) (sym (r .before .before .read-numbers .ensures .0 .0) ∙ c .before .before .before .before .before .before .if4 .left) (sym (none (c .before .before .before .before .before)) ∙ c .before .before .before .before .if5 .left) (sym (beyond (c .before .before .before)) ∙ c .before .before .if6 .left) (sym (unfit (c .before)) ∙ c .if7 .taken)
 
+is-unlisted-requires : tie.Need-is-unlisted-requires
+is-unlisted-requires c κs = λ p.
+    let r = c .before .before .before .before .before .before .before .before .before .before in
+    let m = start r .args .m in
+    ap length (part-rest (text r) (fieldsOf m))
+    ∙ one-digit _ _ _ (m .follows) p (was-true (long (c .before .before .before .before .before .before .before .before .before)) (c .before .before .before .before .before .before .before .before .if3 .left))
+
 returns-8 : tie.Need-returns-8
 returns-8 c =
-    let r = c .before .before .before .before .before .before .before .before .before .before in
+    let r = c .before .before .before .before .before .before .before .before .before .before .before .before in
+    let a = start r .args in
+    at-108 (a .held) (a .fitted) (a .m) (text r) (digits r) (room r) (was-true (long (c .before .before .before .before .before .before .before .before .before .before .before)) (c .before .before .before .before .before .before .before .before .before .before .if3 .left)) (sym (r .before .before .read-numbers .ensures .0 .0) ∙ c .before .before .before .before .before .before .before .before .if4 .left) (sym (none (c .before .before .before .before .before .before .before)) ∙ c .before .before .before .before .before .before .if5 .left) (sym (beyond (c .before .before .before .before .before)) ∙ c .before .before .before .before .if6 .left) (sym (unfit (c .before .before .before)) ∙ c .before .before .if7 .left) (sym (unlisted (c .before)) ∙ c .if8 .taken)
+
+returns-9 : tie.Need-returns-9
+returns-9 c =
+    let r = c .before .before .before .before .before .before .before .before .before .before .before .before in
     let a = start r .args in
     let n = r .before .before .read-numbers .ensures .0 in
-    same-order (a .m) (at-order (a .held) (a .fitted) (a .m) (text r) (digits r) (room r) (was-true (long (c .before .before .before .before .before .before .before .before .before)) (c .before .before .before .before .before .before .before .before .if3 .left)) (sym (r .before .before .read-numbers .ensures .0 .0) ∙ c .before .before .before .before .before .before .if4 .left) (sym (none (c .before .before .before .before .before)) ∙ c .before .before .before .before .if5 .left) (sym (beyond (c .before .before .before)) ∙ c .before .before .if6 .left) (sym (unfit (c .before)) ∙ c .if7 .left)) (n .1) (n .2)
+    same-order (a .m) (at-order (a .held) (a .fitted) (a .m) (text r) (digits r) (room r) (was-true (long (c .before .before .before .before .before .before .before .before .before .before .before)) (c .before .before .before .before .before .before .before .before .before .before .if3 .left)) (sym (r .before .before .read-numbers .ensures .0 .0) ∙ c .before .before .before .before .before .before .before .before .if4 .left) (sym (none (c .before .before .before .before .before .before .before)) ∙ c .before .before .before .before .before .before .if5 .left) (sym (beyond (c .before .before .before .before .before)) ∙ c .before .before .before .before .if6 .left) (sym (unfit (c .before .before .before)) ∙ c .before .before .if7 .left) (sym (unlisted (c .before)) ∙ c .if8 .left)) (n .1) (n .2)
 
 pub judge-content-spec : {M : Type 1} → statement M
 judge-content-spec =
@@ -190,4 +211,6 @@ judge-content-spec =
     returns-6
     is-unfit-requires
     returns-7
-    returns-8)
+    is-unlisted-requires
+    returns-8
+    returns-9)

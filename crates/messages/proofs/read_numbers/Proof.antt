@@ -3,6 +3,7 @@ use native.Mathlib.Omega.{arith}
 use native.Mathlib.Nat.{add-sub-cancel-left}
 use lib.ListN.{length, take, length-take}
 use lib.Seq.{length-take-le}
+use Rattle.messages.proofs.Judged.{counted}
 use borrow.Author.Needs.{needs}
 use Rattle.messages.proofs.read_numbers.Statement.{statement}
 use Rattle.messages.proofs.read_numbers.Tie as tie
@@ -31,24 +32,25 @@ part-small-end c = search needs
 small-requires-2 : tie.Need-small-requires-2
 small-requires-2 c κs = search needs
 
-sub-small-2 : tie.Need-sub-small-2
-sub-small-2 c = search needs
+sub-count-of : tie.Need-sub-count-of
+sub-count-of c = search needs
 
-part-small-start-2 : tie.Need-part-small-start-2
-part-small-start-2 c = search needs
+part-count-of-start : tie.Need-part-count-of-start
+part-count-of-start c = search needs
 
-part-small-end-2 : tie.Need-part-small-end-2
-part-small-end-2 c = search needs
+part-count-of-end : tie.Need-part-count-of-end
+part-count-of-end c = search needs
 
-small-requires-3 : tie.Need-small-requires-3
-small-requires-3 c κs = search needs
+count-of-requires : tie.Need-count-of-requires
+count-of-requires c κs = search needs
 
 returns : tie.Need-returns
 returns c =
     let p = c .before .before .before .before .small .ensures in
     let s = c .before .before .small2 .ensures in
-    let k = c .small3 .ensures in
-    ((p .0, rw add-sub-cancel-left at (s .0), rw add-sub-cancel-left at (k .0)), (s .1, k .1))
+    let k = c .count-of .ensures in
+    let f = c .before .before .before .before .before .before .before .before .before in
+    ((p .0, rw add-sub-cancel-left at (s .0), counted (f .args .m) (f .args .content .now) (f .pre .1) (rw add-sub-cancel-left at (k .0))), (s .1, k .1))
 
 pub read-numbers-spec : {M : Type 1} → statement M
 read-numbers-spec =
@@ -62,8 +64,8 @@ read-numbers-spec =
     part-small-start
     part-small-end
     small-requires-2
-    sub-small-2
-    part-small-start-2
-    part-small-end-2
-    small-requires-3
+    sub-count-of
+    part-count-of-start
+    part-count-of-end
+    count-of-requires
     returns)

@@ -1,6 +1,7 @@
 use Prim.Native.Nat.{_+_, _-_, _*_}
 use mathlib.Core.Path.{refl}
 use native.Mathlib.Omega.{arith}
+use Rattle.pairs.specs.Pairs.{digitsIn}
 use Rattle.queries.specs.Replies.{runText}
 use Rattle.queries.proofs.Texts.{replied, run-laid, length-run}
 use borrow.Author.Needs.{needs}
@@ -55,7 +56,7 @@ returns c =
     let h = c .before .before .before .before .before .before .before .before .before .before .before .before .before .put-head in
     let p = c .before .before .before .before .before .before .before .before .before .before .place in
     let k = c .before .before .close-reply .ensures in
-    let e = run-laid (a .m) (a .k) (a .start) (a .count) (h .result) (p .result) n s (h .ensures .0 .0) (p .ensures) refl d _ _ (omega arith) (h .ensures .1) (c .before .before .before .before .before .before .put-digits .ensures) in
+    let e = run-laid (a .m) (a .k) (a .start) (a .count) (h .result) (p .result) n s (h .ensures .0 .0) (p .ensures) refl digitsIn d _ _ (omega arith) (h .ensures .1) (c .before .before .before .before .before .before .put-digits .ensures) in
     let l = length-run (a .m) (a .k) (a .start) (a .count) (h .result) (p .result) n s (h .ensures .0 .0) (p .ensures) refl (omega arith) in
     replied d _ _ (runText (a .m) (a .k) (a .start) (a .count) s) (a .station) (h .result - 3 + 2 * n) _ e l (omega (arith, h .ensures .0 .1)) (k .0) (k .1)
 

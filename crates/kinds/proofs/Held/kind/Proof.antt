@@ -19,9 +19,30 @@ returns-2 : tie.Need-returns-2
 unfolding kindOf
 returns-2 c = c .columns .ensures ∙ rw (ne-eqb _ _ (c .before .before .if1 .left), eq-eqb _ _ (c .before .if2 .taken))
 
+integers-requires : tie.Need-integers-requires
+integers-requires c κs = search needs
+
 returns-3 : tie.Need-returns-3
 unfolding kindOf
-returns-3 c = rw (ne-eqb _ _ (c .before .if1 .left), ne-eqb _ _ (c .if2 .left))
+returns-3 c =
+    c .integers .ensures
+    ∙ rw (ne-eqb _ _ (c .before .before .before .if1 .left), ne-eqb _ _ (c .before .before .if2 .left), eq-eqb _ _ (c .before .if3 .taken))
+
+flags-requires : tie.Need-flags-requires
+flags-requires c κs = search needs
+
+returns-4 : tie.Need-returns-4
+unfolding kindOf
+returns-4 c =
+    c .flags .ensures
+    ∙ rw (ne-eqb _ _ (c .before .before .before .before .if1 .left), ne-eqb _ _ (c .before .before .before .if2 .left), ne-eqb _ _ (c .before .before .if3 .left), eq-eqb _ _ (c .before .if4 .taken))
+
+returns-5 : tie.Need-returns-5
+unfolding kindOf
+returns-5 c =
+    rw (ne-eqb _ _ (c .before .before .before .if1 .left), ne-eqb _ _ (c .before .before .if2 .left), ne-eqb _ _ (c .before .if3 .left), ne-eqb _ _ (c .if4 .left))
 
 pub kind-spec : {M : Type 1} → statement M
-kind-spec = tie.close (tie.spec points-requires returns columns-requires returns-2 returns-3)
+kind-spec =
+    tie.close
+    (tie.spec points-requires returns columns-requires returns-2 integers-requires returns-3 flags-requires returns-4 returns-5)

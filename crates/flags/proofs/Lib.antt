@@ -1,0 +1,3 @@
+pub mod OneByte
+pub mod Begun
+pub mod Promised
