@@ -98,7 +98,7 @@ fn a_long_list_is_cut_to_1024_bytes_even_in_a_larger_area() {
 #[test]
 fn spoiled_slots_are_listed_as_they_are_stored() {
     let mut bench = bench();
-    bench.fitted = 0x01;
+    bench.settings.fitted = 0x01;
     bench.board.points[..SLOT].fill(0x12);
     let expected = ["#9920900100112", "1212", "1212", "1212", "12121212", "12121212"].concat();
     assert_eq!(reply(&mut bench, "209001001"), expected);
@@ -140,11 +140,11 @@ fn axis_status_leaves_unfitted_axes_out() {
     let axis_3 = "133AB3C3FFF9E580";
     let axis_8 = "188AB8C8FFF9E580";
     assert_eq!(reply(&mut bench, "21285"), ["#9921285", axis_1, axis_3, axis_8].concat());
-    bench.fitted = 0x84;
+    bench.settings.fitted = 0x84;
     assert_eq!(reply(&mut bench, "21287"), ["#9921284", axis_3, axis_8].concat());
     assert_eq!(reply(&mut bench, "21203"), "#9921200");
     assert_eq!(reply(&mut bench, "21200"), "#9921200");
-    bench.fitted = 0xFF;
+    bench.settings.fitted = 0xFF;
     assert_eq!(bench.ask("212FF").1.len(), 140);
 }
 
@@ -171,7 +171,7 @@ fn point_write_rewrites_slots_whole() {
 #[test]
 fn a_bulk_write_refused_at_its_ninth_point_stores_none() {
     let mut bench = bench();
-    bench.fitted = 0x01;
+    bench.settings.fitted = 0x01;
     let eight = "01001E001E006400000001".repeat(8);
     let (number, _) = bench.ask(&["244001009", &eight, "02001E001E006400000001"].concat());
     assert_eq!(number, 107);
@@ -229,7 +229,7 @@ fn document_000_example_with_point_000_names_no_held_point() {
 #[test]
 fn replies_carry_the_boards_own_station() {
     let mut bench = bench();
-    bench.station = 0x0A;
+    bench.settings.station = 0x0A;
     assert_eq!(reply(&mut bench, "208"), "#0A208000");
     assert_eq!(bench.ask("299").1[..6], *b"&0A101");
 }

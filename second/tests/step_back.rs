@@ -1,11 +1,10 @@
 //! The journal and the step back, through the calls (document 01, "Journal"; demand 3).
 
 use second::bench::Bench;
-use second::link::step_back;
 
-/// One point: the least journal is 340 bytes.
+/// One point: the least journal is 540 bytes.
 fn small() -> Bench {
-    Bench::fresh(1, 340)
+    Bench::fresh(1, 540)
 }
 
 fn accept(bench: &mut Bench, id_and_content: &str) {
@@ -14,7 +13,7 @@ fn accept(bench: &mut Bench, id_and_content: &str) {
 
 #[test]
 fn points_come_back_write_after_write() {
-    let mut bench = Bench::fresh(3, 420);
+    let mut bench = Bench::fresh(3, 620);
     let fresh = bench.board.clone();
     accept(&mut bench, "24400100201000100010001000000010100010001000100000002");
     let first = bench.board.clone();
@@ -24,10 +23,10 @@ fn points_come_back_write_after_write() {
     assert_eq!(bench.board.used, 85 + 85 + 125);
     assert!(bench.board.points.iter().all(|&byte| byte == 0));
     for expected in [second, first, fresh] {
-        assert_eq!(step_back(&mut bench.board), 0);
+        assert_eq!(bench.step_back(), 0);
         assert_eq!(bench.board, expected);
     }
-    assert_eq!(step_back(&mut bench.board), 9);
+    assert_eq!(bench.step_back(), 9);
 }
 
 #[test]
@@ -37,11 +36,11 @@ fn columns_come_back_with_leading_zeros() {
     let first = bench.board.clone();
     accept(&mut bench, "24E0012C04FFFFFFFF");
     accept(&mut bench, "24E003E701AA");
-    assert_eq!(step_back(&mut bench.board), 0);
-    assert_eq!(step_back(&mut bench.board), 0);
+    assert_eq!(bench.step_back(), 0);
+    assert_eq!(bench.step_back(), 0);
     assert_eq!(bench.board, first);
     assert_eq!(bench.board.columns[..4], [0x30, 0x30, 0x34, 0x37]);
-    assert_eq!(step_back(&mut bench.board), 0);
+    assert_eq!(bench.step_back(), 0);
     assert_eq!(bench.board, small().board);
 }
 
@@ -51,11 +50,11 @@ fn points_and_columns_share_the_order() {
     accept(&mut bench, "24E0012C0141");
     accept(&mut bench, "2440010010100000000000000000007");
     accept(&mut bench, "24E0012C0142");
-    assert_eq!(step_back(&mut bench.board), 0);
+    assert_eq!(bench.step_back(), 0);
     assert_eq!((bench.board.columns[0], bench.board.points[11]), (0x41, 7));
-    assert_eq!(step_back(&mut bench.board), 0);
+    assert_eq!(bench.step_back(), 0);
     assert_eq!((bench.board.columns[0], bench.board.points[11]), (0x41, 0));
-    assert_eq!(step_back(&mut bench.board), 0);
+    assert_eq!(bench.step_back(), 0);
     assert_eq!(bench.board, small().board);
 }
 
@@ -66,7 +65,7 @@ fn a_write_that_changes_no_byte_is_an_entry_too() {
     assert_eq!(bench.board.used, 45);
     accept(&mut bench, "24E0012C0100");
     assert_eq!(bench.board.used, 51);
-    assert_eq!(step_back(&mut bench.board), 0);
+    assert_eq!(bench.step_back(), 0);
     assert_eq!(bench.board.used, 45);
 }
 
@@ -83,44 +82,44 @@ fn queries_and_refused_writes_are_not_stepped_back() {
     }
     assert_eq!(bench.hand(b"!9924E0012C014300\r\n").0, 7);
     assert_eq!(bench.board.columns[0], 0x42);
-    assert_eq!(step_back(&mut bench.board), 0);
+    assert_eq!(bench.step_back(), 0);
     assert_eq!(bench.board.columns[0], 0x41);
 }
 
 #[test]
 fn a_full_journal_drops_its_oldest_and_no_more_than_needed() {
-    let mut bench = small();
-    // Entries of 45 bytes: seven make 315, the eighth would make 360.
-    for number in 1..=7 {
-        accept(&mut bench, &format!("24400100101000000000000000000{number}0"));
+    let mut bench = Bench::fresh(1, 565);
+    // Entries of 45 bytes: twelve make 540, the 13th would make 585.
+    for number in 1..=12 {
+        accept(&mut bench, &format!("24400100101000000000000000000{number:X}0"));
         assert_eq!(bench.board.used, 45 * number);
     }
-    accept(&mut bench, "2440010010100000000000000000080");
-    assert_eq!(bench.board.used, 315);
+    accept(&mut bench, "24400100101000000000000000000D0");
+    assert_eq!(bench.board.used, 540);
     // 25 bytes are left: 20 columns take all of them.
     accept(&mut bench, &["24E0012C14", &"41".repeat(20)].concat());
-    assert_eq!(bench.board.used, 340);
+    assert_eq!(bench.board.used, 565);
     // One column's 6 bytes cost one entry of 45.
     accept(&mut bench, "24E0012C0142");
-    assert_eq!(bench.board.used, 301);
-    assert!(bench.board.journal[301..].iter().all(|&byte| byte == 0));
+    assert_eq!(bench.board.used, 526);
+    assert!(bench.board.journal[526..].iter().all(|&byte| byte == 0));
     for columns in [0x41, 0x00] {
-        assert_eq!(step_back(&mut bench.board), 0);
+        assert_eq!(bench.step_back(), 0);
         assert_eq!(bench.board.columns[0], columns);
     }
-    // Points 8 to 3 go back; the writes 1 and 2 can't be taken back any more.
-    for number in [0x70, 0x60, 0x50, 0x40, 0x30, 0x20] {
-        assert_eq!(step_back(&mut bench.board), 0);
+    // Writes 13 to 3 go back; the writes 1 and 2 can't be taken back any more.
+    for number in (2..=12).rev().map(|number| 0x10 * number) {
+        assert_eq!(bench.step_back(), 0);
         assert_eq!(bench.board.points[11], number);
     }
     assert_eq!(bench.board.used, 0);
-    assert_eq!(step_back(&mut bench.board), 9);
+    assert_eq!(bench.step_back(), 9);
     assert_eq!(bench.board.points[11], 0x20);
 }
 
 #[test]
 fn the_longest_entries_fit_the_least_journal() {
-    let mut bench = Bench::fresh(1_500, 60_300);
+    let mut bench = Bench::fresh(1_500, 60_500);
     bench.board.points.fill(0x11);
     for _ in 0..2 {
         accept(&mut bench, "2460015DC");
@@ -130,9 +129,9 @@ fn the_longest_entries_fit_the_least_journal() {
     }
     accept(&mut bench, &["24E0012CFF", &"41".repeat(255)].concat());
     assert_eq!(bench.board.used, 60_265);
-    // 35 bytes are left: an entry of 42 costs the long one.
-    accept(&mut bench, &["24E0012C25", &"41".repeat(37)].concat());
-    assert_eq!(bench.board.used, 260 + 42);
+    // 235 bytes are left: an entry of 236 costs the long one.
+    accept(&mut bench, &["24E0012CE7", &"41".repeat(231)].concat());
+    assert_eq!(bench.board.used, 260 + 236);
 }
 
 #[test]
@@ -149,9 +148,9 @@ fn journals_of_the_greatest_length_are_used_to_the_last_byte() {
     accept(&mut bench, "24E0012C0141");
     assert_eq!(bench.board.used, 65_536 - 260 + 6);
     for _ in 0..297 {
-        assert_eq!(step_back(&mut bench.board), 0);
+        assert_eq!(bench.step_back(), 0);
     }
-    assert_eq!(step_back(&mut bench.board), 9);
+    assert_eq!(bench.step_back(), 9);
 }
 
 #[test]
@@ -163,7 +162,7 @@ fn bytes_beyond_the_used_length_are_00_after_a_write_and_a_step_back() {
     accept(&mut bench, "24E0012C024242");
     assert_eq!(bench.board.used, 13);
     bench.board.journal[13..].fill(0xEE);
-    assert_eq!(step_back(&mut bench.board), 0);
+    assert_eq!(bench.step_back(), 0);
     assert_eq!(bench.board.used, 6);
     assert!(bench.board.journal[6..].iter().all(|&byte| byte == 0));
 }
@@ -174,7 +173,7 @@ fn spoiled_old_bytes_come_back_as_they_were() {
     bench.board.points.fill(0x5A);
     let before = bench.board.clone();
     accept(&mut bench, "2440010010100000000000000000001");
-    assert_eq!(step_back(&mut bench.board), 0);
+    assert_eq!(bench.step_back(), 0);
     assert_eq!(bench.board, before);
 }
 
@@ -187,7 +186,7 @@ fn a_spoiled_journal_refuses_both_calls() {
         let mut spoiled = bench.clone();
         spoiled.board.journal[at] ^= 0x04;
         let before = spoiled.board.clone();
-        assert_eq!(step_back(&mut spoiled.board), 4, "{at}");
+        assert_eq!(spoiled.step_back(), 4, "{at}");
         assert_eq!(spoiled.ask("208").0, 4, "{at}");
         assert_eq!(spoiled.board, before);
     }
