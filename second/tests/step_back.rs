@@ -59,14 +59,95 @@ fn points_and_columns_share_the_order() {
 }
 
 #[test]
+fn integers_come_back_write_after_write() {
+    let mut bench = small();
+    let fresh = bench.board.clone();
+    accept(&mut bench, "24C000C8020000002F80000000");
+    let first = bench.board.clone();
+    accept(&mut bench, "24C000C801FFFFFFFF");
+    let second = bench.board.clone();
+    accept(&mut bench, &["24C000C864", &"01234567".repeat(100)].concat());
+    assert_eq!(bench.board.used, 13 + 9 + 405);
+    assert_eq!(bench.board.journal[22..31], [0x49, 0x01, 0x92, 0, 0xC8, 0xFF, 0xFF, 0xFF, 0xFF]);
+    for expected in [second, first, fresh] {
+        assert_eq!(bench.step_back(), 0);
+        assert_eq!(bench.board, expected);
+    }
+    assert_eq!(bench.step_back(), 9);
+}
+
+#[test]
+fn a_flags_old_byte_comes_back_as_it_was() {
+    let mut bench = small();
+    bench.board.flags[299] = 0x30;
+    let spoiled = bench.board.clone();
+    accept(&mut bench, "24B0003831");
+    assert_eq!(bench.board.journal[..7], [0x46, 0, 3, 0x03, 0x83, 0x30, 0]);
+    accept(&mut bench, "24B0003830");
+    assert_eq!((bench.board.flags[299], bench.board.used), (0x00, 12));
+    assert_eq!(bench.step_back(), 0);
+    assert_eq!(bench.board.flags[299], 0x01);
+    assert_eq!(bench.step_back(), 0);
+    assert_eq!(bench.board, spoiled);
+}
+
+#[test]
+fn all_four_kinds_share_the_order() {
+    let mut bench = small();
+    let mut boards = vec![bench.board.clone()];
+    for write in [
+        "24C000C80100000001",
+        "24B0002581",
+        "24E0012C0141",
+        "2440010010100000000000000000007",
+        "24B0002580",
+        "24C000C802FFFFFFFF00000002",
+        "246001001",
+    ] {
+        accept(&mut bench, write);
+        boards.push(bench.board.clone());
+    }
+    boards.pop();
+    for board in boards.into_iter().rev() {
+        assert_eq!(bench.step_back(), 0);
+        assert_eq!(bench.board, board);
+    }
+    assert_eq!(bench.step_back(), 9);
+}
+
+#[test]
+fn an_entry_names_numbers_not_places() {
+    let mut bench = small();
+    accept(&mut bench, "24C000C90100000005");
+    // 201 was the second integer; from 102 on it is the last.
+    bench.settings.firsts.integer = 102;
+    bench.board.integers.fill(0x77);
+    assert_eq!(bench.step_back(), 0);
+    assert_eq!(bench.board.integers[..396], [0x77; 396]);
+    assert_eq!(bench.board.integers[396..], [0; 4]);
+    let mut bench = small();
+    accept(&mut bench, "24B0002581");
+    bench.settings.firsts.flag = 601;
+    let before = bench.board.clone();
+    assert_eq!((bench.step_back(), bench.ask("208").0), (4, 4));
+    assert_eq!(bench.board, before);
+}
+
+#[test]
 fn a_write_that_changes_no_byte_is_an_entry_too() {
     let mut bench = small();
     accept(&mut bench, "246001001");
     assert_eq!(bench.board.used, 45);
     accept(&mut bench, "24E0012C0100");
     assert_eq!(bench.board.used, 51);
-    assert_eq!(bench.step_back(), 0);
-    assert_eq!(bench.board.used, 45);
+    accept(&mut bench, "24C000C80100000000");
+    assert_eq!(bench.board.used, 60);
+    accept(&mut bench, "24B0002580");
+    assert_eq!(bench.board.used, 66);
+    for used in [60, 51, 45] {
+        assert_eq!(bench.step_back(), 0);
+        assert_eq!(bench.board.used, used);
+    }
 }
 
 #[test]
@@ -74,10 +155,12 @@ fn queries_and_refused_writes_are_not_stepped_back() {
     let mut bench = small();
     accept(&mut bench, "24E0012C0141");
     accept(&mut bench, "24E0012C0142");
-    for query in ["200..........", "208", "209001001", "2100012C02", "212FF"] {
+    let queries = ["200..........", "208", "209001001", "2100012C02", "212FF"];
+    for query in queries.into_iter().chain(["20D0002580001", "20E000C801"]) {
         accept(&mut bench, query);
     }
-    for refused in ["24E0012C0043", "24E0112C0143", "246002001", "24400100100000000000000", "299"] {
+    let refused = ["24E0012C0043", "24E0112C0143", "246002001", "24400100100000000000000", "299"];
+    for refused in refused.into_iter().chain(["24B0002582", "24C0012B020000000100000002"]) {
         assert!(bench.ask(refused).0 > 100, "{refused}");
     }
     assert_eq!(bench.hand(b"!9924E0012C014300\r\n").0, 7);

@@ -111,8 +111,8 @@ fn programs_counts_numbers(script: &mut Script) {
     for (start, values) in [(199, 1), (199, 2), (300, 1), (299, 2), (0xFFF, 1)] {
         script.ask(&integer_change(start, &vec![1; values]));
     }
-    // As many as a frame holds, more than are held; then all that are.
-    script.ask(&integer_change(200, &[1; 124]));
+    // As many as a frame has room for, and one more than are held.
+    script.ask(&integer_change(200, &[1; 125]));
     script.ask(&integer_change(200, &[1; 101]));
     let beyond =
         [(599, 1), (900, 1), (899, 2), (600, 301), (600, 0xFFFF), (0xFFFF, 0xFFFF), (0, 1)];
