@@ -16,7 +16,7 @@ pub struct Lent {
 }
 
 impl Lent {
-    /// The kinds of a sound board; of one whose points area is spoiled, with the points it has room for.
+    /// The kinds of the board; with a spoiled points area, of the points it has room for.
     pub fn kinds(&self) -> Kinds {
         Kinds::of((self.board.points.len() / SLOT).max(1), self.settings.firsts)
     }
@@ -80,10 +80,9 @@ pub fn dump(call: &Call, lent: &Lent) -> String {
         Call::StepBack => "step back",
         Call::Receive { .. } => "receive",
     };
-    let mut text = format!(
-        "call: {name}\nfitted {fitted:02X} station {station:02X} first integer {:04X} first flag {:04X} used {}\n",
-        firsts.integer, firsts.flag, lent.board.used
-    );
+    let mut text = format!("call: {name}\n");
+    let _ = writeln!(text, "fitted {fitted:02X} station {station:02X} used {}", lent.board.used);
+    let _ = writeln!(text, "first integer {:04X} first flag {:04X}", firsts.integer, firsts.flag);
     for (name, bytes) in NAMES.into_iter().zip(parts(call, lent)) {
         dump_bytes(&mut text, name, bytes);
     }
@@ -114,7 +113,7 @@ mod tests {
             reply: vec![0xEE; 33],
         };
         let text = dump(&Call::Answer { frame: b"!99".to_vec() }, &lent);
-        let settings = "fitted FF station 99 first integer 00C8 first flag 0258 used 0";
+        let settings = "fitted FF station 99 used 0\nfirst integer 00C8 first flag 0258";
         assert!(text.starts_with(&format!("call: answer\n{settings}\nhanded bytes: 3 bytes\n")));
         assert!(text.contains("      0 213939\npoints: 40 bytes\ncolumns: 700 bytes\n"));
         assert!(text.contains("integers: 400 bytes\nflags: 300 bytes\njournal: 540 bytes\n"));
