@@ -14,7 +14,7 @@
 #define GUARD 0xC7       /* fills the guards */
 #define UNSET 0x55555555 /* stands in each out number before the call */
 
-enum { HANDED, POINTS, COLUMNS, JOURNAL, AXES, REPLY, PARTS };
+enum { HANDED, POINTS, COLUMNS, INTEGERS, FLAGS, JOURNAL, AXES, REPLY, PARTS };
 
 struct area {
     uint8_t *whole;  /* guard, lent bytes, guard */
@@ -188,19 +188,22 @@ static void call(int kind)
 {
     size_t used = (size_t)number(8), out[3] = {UNSET, UNSET, UNSET}, i;
     uint8_t fitted = (uint8_t)number(1), station = (uint8_t)number(1);
-    struct area *p = &area[POINTS], *c = &area[COLUMNS], *j = &area[JOURNAL], *x = &area[AXES];
-    struct area *r = &area[REPLY], *h = &area[HANDED];
+    uint16_t first_integer = (uint16_t)number(2), first_flag = (uint16_t)number(2);
+    struct area *p = &area[POINTS], *c = &area[COLUMNS], *n = &area[INTEGERS], *f = &area[FLAGS];
+    struct area *j = &area[JOURNAL], *x = &area[AXES], *r = &area[REPLY], *h = &area[HANDED];
     unsigned returned;
 
     if (p->whole == NULL)
         fail("malformed operation", 2);
     if (kind == 'F')
         returned = cabinet_answer(lent(h), h->length, lent(p), p->length, lent(c), c->length,
-                                  lent(j), j->length, &used, lent(x), x->length, fitted, station,
+                                  lent(n), n->length, lent(f), f->length, lent(j), j->length, &used,
+                                  lent(x), x->length, fitted, station, first_integer, first_flag,
                                   lent(r), r->length, &out[0]);
     else if (kind == 'S')
-        returned = cabinet_step_back(lent(p), p->length, lent(c), c->length, lent(j), j->length,
-                                     &used);
+        returned = cabinet_step_back(lent(p), p->length, lent(c), c->length, lent(n), n->length,
+                                     lent(f), f->length, lent(j), j->length, &used,
+                                     first_integer, first_flag);
     else
         returned = cabinet_receive(lent(h), h->length, &out[0], &out[1], &out[2]);
 

@@ -10,18 +10,20 @@
 #include <stdlib.h>
 #include <string.h>
 
-enum { POINTS, COLUMNS, JOURNAL, REPLY, AXES, PARTS };
+enum { POINTS, COLUMNS, INTEGERS, FLAGS, JOURNAL, REPLY, AXES, PARTS };
 
 /* Some are longer than the board takes: it must refuse those lengths too. */
 static uint8_t points[CABINET_POINTS_BYTES(CABINET_MOST_POINTS)], columns[CABINET_COLUMNS_BYTES + 20];
+static uint8_t integers[CABINET_INTEGERS_BYTES + 20], flags[CABINET_FLAGS_BYTES + 20];
 static uint8_t journal[CABINET_MOST_JOURNAL_BYTES + 64], reply[CABINET_REPLY_BYTES + 76];
 static uint8_t axes[CABINET_AXES_BYTES + 8];
-static uint8_t *const area[PARTS] = {points, columns, journal, reply, axes};
-static const size_t most[PARTS] = {sizeof points, sizeof columns, sizeof journal, sizeof reply,
-                                   sizeof axes};
+static uint8_t *const area[PARTS] = {points, columns, integers, flags, journal, reply, axes};
+static const size_t most[PARTS] = {sizeof points, sizeof columns, sizeof integers, sizeof flags,
+                                   sizeof journal, sizeof reply, sizeof axes};
 static size_t lent[PARTS];
 static size_t used;
 static uint8_t fitted, station;
+static uint16_t first_integer, first_flag;
 
 static uint8_t operations[262144];
 static size_t at, end;
@@ -67,16 +69,30 @@ static void lend(size_t named, size_t length)
     lent[named] = length;
 }
 
+static void take_axes_and_station(void)
+{
+    fitted = (uint8_t)number(1);
+    station = (uint8_t)number(1);
+}
+
+static void take_first_numbers(void)
+{
+    first_integer = (uint16_t)number(2);
+    first_flag = (uint16_t)number(2);
+}
+
 static void board(void)
 {
     size_t named;
     for (named = 0; named < PARTS; named++)
         memset(area[named], named == REPLY ? 0xEE : 0, most[named]);
     lend(POINTS, CABINET_POINTS_BYTES((size_t)number(2)));
-    fitted = (uint8_t)number(1);
-    station = (uint8_t)number(1);
+    take_axes_and_station();
     lend(JOURNAL, (size_t)number(4));
+    take_first_numbers();
     lend(COLUMNS, CABINET_COLUMNS_BYTES);
+    lend(INTEGERS, CABINET_INTEGERS_BYTES);
+    lend(FLAGS, CABINET_FLAGS_BYTES);
     lend(REPLY, CABINET_REPLY_BYTES);
     lend(AXES, CABINET_AXES_BYTES);
     used = 0;
@@ -108,18 +124,21 @@ static void answer(void)
     size_t length = (size_t)number(2), reply_length;
     const uint8_t *frame = take(length);
     unsigned given = cabinet_answer(frame, length, points, lent[POINTS], columns, lent[COLUMNS],
+                                    integers, lent[INTEGERS], flags, lent[FLAGS],
                                     journal, lent[JOURNAL], &used, axes, lent[AXES],
-                                    fitted, station, reply, lent[REPLY], &reply_length);
+                                    fitted, station, first_integer, first_flag,
+                                    reply, lent[REPLY], &reply_length);
     printf("F %u %lu %lu", given, (unsigned long)reply_length, (unsigned long)used);
-    print_digests(4);
+    print_digests(AXES); /* all before the axes, which no call writes */
 }
 
 static void step_back(void)
 {
     unsigned given = cabinet_step_back(points, lent[POINTS], columns, lent[COLUMNS],
-                                       journal, lent[JOURNAL], &used);
+                                       integers, lent[INTEGERS], flags, lent[FLAGS],
+                                       journal, lent[JOURNAL], &used, first_integer, first_flag);
     printf("S %u %lu", given, (unsigned long)used);
-    print_digests(3);
+    print_digests(REPLY); /* all before the reply */
 }
 
 static void find(void)
@@ -140,7 +159,7 @@ static int play(void)
     case 'X': spoil(); return 1;
     case 'U': used = (size_t)number(8); return 1;
     case 'L': named = part(); lend(named, (size_t)number(4)); return 1;
-    case 'P': fitted = (uint8_t)number(1); station = (uint8_t)number(1); return 1;
+    case 'P': take_axes_and_station(); take_first_numbers(); return 1;
     case 'F': answer(); return 1;
     case 'S': step_back(); return 1;
     case 'R': find(); return 1;

@@ -141,7 +141,9 @@ extern "C" {
 #define CABINET_MOST_POINTS 1500
 #define CABINET_POINTS_BYTES(points_held) (CABINET_SLOT_BYTES * (points_held))
 #define CABINET_COLUMNS_BYTES 700
-#define CABINET_LEAST_JOURNAL_BYTES(points_held) (CABINET_POINTS_BYTES(points_held) + 300)
+#define CABINET_INTEGERS_BYTES 400
+#define CABINET_FLAGS_BYTES 300
+#define CABINET_LEAST_JOURNAL_BYTES(points_held) (CABINET_POINTS_BYTES(points_held) + 500)
 #define CABINET_MOST_JOURNAL_BYTES 65536
 #define CABINET_RECORD_BYTES 9
 #define CABINET_AXES_BYTES (8 * CABINET_RECORD_BYTES)
@@ -235,9 +237,12 @@ uint8_t cabinet_receive(const uint8_t *received, size_t received_length,
 uint16_t cabinet_answer(const uint8_t *frame, size_t frame_length,
                         uint8_t *points, size_t points_length,
                         uint8_t *columns, size_t columns_length,
+                        uint8_t *integers, size_t integers_length,
+                        uint8_t *flags, size_t flags_length,
                         uint8_t *journal, size_t journal_length, size_t *used,
                         const uint8_t *axes, size_t axes_length,
                         uint8_t fitted, uint8_t station,
+                        uint16_t first_integer, uint16_t first_flag,
                         uint8_t *reply, size_t reply_area_length, size_t *reply_length);
 
 /*
@@ -255,7 +260,10 @@ uint16_t cabinet_answer(const uint8_t *frame, size_t frame_length,
  */
 uint16_t cabinet_step_back(uint8_t *points, size_t points_length,
                            uint8_t *columns, size_t columns_length,
-                           uint8_t *journal, size_t journal_length, size_t *used);
+                           uint8_t *integers, size_t integers_length,
+                           uint8_t *flags, size_t flags_length,
+                           uint8_t *journal, size_t journal_length, size_t *used,
+                           uint16_t first_integer, uint16_t first_flag);
 
 /*
  * A board: all that the calls below need, by name. Areas whose length is the host's choice are lent;
@@ -299,10 +307,12 @@ struct cabinet {
 static inline uint16_t cabinet_answer_frame(struct cabinet *board,
                                             const uint8_t *frame, size_t frame_length)
 {
+    uint8_t integers[CABINET_INTEGERS_BYTES] = {0}, flags[CABINET_FLAGS_BYTES] = {0}; /* until the struct has them */
     return cabinet_answer(frame, frame_length, board->points, board->points_length,
                           board->columns, sizeof board->columns,
+                          integers, sizeof integers, flags, sizeof flags,
                           board->journal, board->journal_length, &board->used,
-                          board->axes, sizeof board->axes, board->fitted, board->station,
+                          board->axes, sizeof board->axes, board->fitted, board->station, 0, 0,
                           board->reply, sizeof board->reply, &board->reply_length);
 }
 
@@ -313,10 +323,12 @@ static inline uint16_t cabinet_answer_frame(struct cabinet *board,
  */
 static inline uint16_t cabinet_take_back(struct cabinet *board)
 {
+    uint8_t integers[CABINET_INTEGERS_BYTES] = {0}, flags[CABINET_FLAGS_BYTES] = {0}; /* until the struct has them */
     board->reply_length = 0;
     return cabinet_step_back(board->points, board->points_length,
                              board->columns, sizeof board->columns,
-                             board->journal, board->journal_length, &board->used);
+                             integers, sizeof integers, flags, sizeof flags,
+                             board->journal, board->journal_length, &board->used, 0, 0);
 }
 
 #ifdef __cplusplus

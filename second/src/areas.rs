@@ -1,4 +1,5 @@
-//! The lent areas (document 01, "The areas"): slots, columns and axis records.
+//! The lent areas (document 01, "The areas"; document 02, a): slots, columns, integers, flags and
+//! axis records.
 
 use std::ops::Range;
 
@@ -6,7 +7,13 @@ pub const SLOT: usize = 40;
 pub const MOST_POINTS: usize = 1_500;
 pub const COLUMNS: usize = 700;
 pub const FIRST_COLUMN: usize = 300;
-pub const LAST_COLUMN: usize = 999;
+/// Bytes of one integer, high byte first, and how many are held.
+pub const INTEGER: usize = 4;
+pub const INTEGERS: usize = 100;
+pub const FLAGS: usize = 300;
+/// The greatest numbers that fields of three and of four digits give.
+pub const LAST_INTEGER_NUMBER: usize = 0xFFF;
+pub const LAST_FLAG_NUMBER: usize = 0xFFFF;
 pub const RECORD: usize = 9;
 pub const AXES: usize = 8;
 
@@ -15,6 +22,8 @@ pub const AXES: usize = 8;
 pub struct Board {
     pub points: Vec<u8>,
     pub columns: Vec<u8>,
+    pub integers: Vec<u8>,
+    pub flags: Vec<u8>,
     pub journal: Vec<u8>,
     pub used: usize,
 }
@@ -25,6 +34,8 @@ impl Board {
         Board {
             points: vec![0; SLOT * points],
             columns: vec![0; COLUMNS],
+            integers: vec![0; INTEGER * INTEGERS],
+            flags: vec![0; FLAGS],
             journal: vec![0; journal_length],
             used: 0,
         }
@@ -41,6 +52,8 @@ impl Board {
         match area {
             Area::Points => &self.points,
             Area::Columns => &self.columns,
+            Area::Integers => &self.integers,
+            Area::Flags => &self.flags,
         }
     }
 
@@ -48,42 +61,122 @@ impl Board {
         match area {
             Area::Points => &mut self.points,
             Area::Columns => &mut self.columns,
+            Area::Integers => &mut self.integers,
+            Area::Flags => &mut self.flags,
         }
     }
+}
+
+/// The settings that number integers and flags: the number of the first of each.
+#[derive(Clone, Copy, Debug, PartialEq, Eq)]
+pub struct Firsts {
+    pub integer: u16,
+    pub flag: u16,
+}
+
+/// All settings handed to a frame's answer; a step back is handed the first numbers alone.
+#[derive(Clone, Copy, Debug, PartialEq, Eq)]
+pub struct Settings {
+    pub fitted: u8,
+    pub station: u8,
+    pub firsts: Firsts,
 }
 
 #[derive(Clone, Copy, Debug, PartialEq, Eq)]
 pub enum Area {
     Points,
     Columns,
+    Integers,
+    Flags,
 }
 
-/// The numbers from `start` to `start + count - 1` of one area.
+/// A kind of thing that the board keeps in an area of its own, one after the other.
+#[derive(Clone, Copy, Debug, PartialEq, Eq)]
+pub struct Kind {
+    pub area: Area,
+    /// The tag of its journal entries.
+    pub tag: u8,
+    /// The number of the first.
+    pub first: usize,
+    /// Bytes of each.
+    pub unit: usize,
+    /// How many are held, from the first on.
+    pub held: usize,
+    /// How many one write can name, and so one entry.
+    pub most: usize,
+}
+
+impl Kind {
+    /// The number of the last.
+    pub fn last(&self) -> usize {
+        self.first + self.held - 1
+    }
+
+    /// Bytes of all.
+    pub fn bytes(&self) -> usize {
+        self.unit * self.held
+    }
+}
+
+/// The four kinds of a board.
+#[derive(Clone, Copy, Debug, PartialEq, Eq)]
+pub struct Kinds {
+    pub points: Kind,
+    pub columns: Kind,
+    pub integers: Kind,
+    pub flags: Kind,
+}
+
+impl Kinds {
+    /// The kinds of a board with N points and these settings.
+    pub fn of(points: usize, firsts: Firsts) -> Kinds {
+        let kind = |area, tag, first, unit, held, most| Kind { area, tag, first, unit, held, most };
+        let (integer, flag) = (usize::from(firsts.integer), usize::from(firsts.flag));
+        Kinds {
+            points: kind(Area::Points, 0x50, 1, SLOT, points, points),
+            // A count of two digits names at most 255 columns.
+            columns: kind(Area::Columns, 0x53, FIRST_COLUMN, 1, COLUMNS, 255),
+            integers: kind(Area::Integers, 0x49, integer, INTEGER, INTEGERS, INTEGERS),
+            // 24BH names one flag.
+            flags: kind(Area::Flags, 0x46, flag, 1, FLAGS, 1),
+        }
+    }
+
+    pub fn all(&self) -> [Kind; 4] {
+        [self.points, self.columns, self.integers, self.flags]
+    }
+
+    /// The kind whose entries have this tag.
+    pub fn with_tag(&self, tag: u8) -> Option<Kind> {
+        self.all().into_iter().find(|kind| kind.tag == tag)
+    }
+
+    /// Whether no number of a setting's kind runs past its field (else refusal 10).
+    pub fn fit_their_fields(&self) -> bool {
+        self.integers.last() <= LAST_INTEGER_NUMBER && self.flags.last() <= LAST_FLAG_NUMBER
+    }
+}
+
+/// The numbers from `start` to `start + count - 1` of one kind.
 #[derive(Clone, Copy, Debug, PartialEq, Eq)]
 pub struct Run {
-    pub area: Area,
+    pub kind: Kind,
     pub start: usize,
     pub count: usize,
 }
 
 impl Run {
-    /// Whether every number of the run is held, where N points are: 1 to N, or 300 to 999.
-    pub fn is_held(&self, points: usize) -> bool {
-        let (first, last) = match self.area {
-            Area::Points => (1, points),
-            Area::Columns => (FIRST_COLUMN, LAST_COLUMN),
-        };
+    /// Whether every number of the run is held.
+    pub fn is_held(&self) -> bool {
+        let (first, last) = (self.kind.first, self.kind.last());
         // The count is compared with what is left, as start + count might overflow.
         (first..=last).contains(&self.start) && self.count <= last - self.start + 1
     }
 
     /// Where the bytes of a held run stand in its area.
     pub(crate) fn place(&self) -> Range<usize> {
-        let (from, each) = match self.area {
-            Area::Points => (SLOT * (self.start - 1), SLOT),
-            Area::Columns => (self.start - FIRST_COLUMN, 1),
-        };
-        from..from + each * self.count
+        let from = self.kind.unit * (self.start - self.kind.first);
+        from..from + self.kind.unit * self.count
     }
 }
 
@@ -173,12 +266,13 @@ fn signed(bytes: &[u8]) -> i32 {
 mod tests {
     use super::*;
 
-    fn points(start: usize, count: usize) -> Run {
-        Run { area: Area::Points, start, count }
+    /// 500 points, integers from 200 on, flags from 600 on.
+    fn kinds() -> Kinds {
+        Kinds::of(500, Firsts { integer: 200, flag: 600 })
     }
 
-    fn columns(start: usize, count: usize) -> Run {
-        Run { area: Area::Columns, start, count }
+    fn is_held(kind: Kind, start: usize, count: usize) -> bool {
+        Run { kind, start, count }.is_held()
     }
 
     #[test]
@@ -194,31 +288,56 @@ mod tests {
     }
 
     #[test]
-    fn points_are_held_from_1_to_n() {
-        assert!(points(1, 500).is_held(500));
-        assert!(points(500, 1).is_held(500));
-        assert!(!points(0, 1).is_held(500));
-        assert!(!points(500, 2).is_held(500));
-        assert!(!points(501, 1).is_held(500));
-        assert!(!points(usize::MAX, usize::MAX).is_held(500));
-        assert!(!points(2, usize::MAX).is_held(500));
+    fn each_kind_is_held_from_its_first_number_to_its_last() {
+        let Kinds { points, columns, integers, flags } = kinds();
+        for (kind, first, last) in
+            [(points, 1, 500), (columns, 300, 999), (integers, 200, 299), (flags, 600, 899)]
+        {
+            assert_eq!((kind.first, kind.last()), (first, last));
+            let all = last - first + 1;
+            assert!(is_held(kind, first, all));
+            assert!(is_held(kind, last, 1));
+            assert!(!is_held(kind, first, all + 1));
+            assert!(!is_held(kind, first - 1, 1));
+            assert!(!is_held(kind, last, 2));
+            assert!(!is_held(kind, last + 1, 1));
+            assert!(!is_held(kind, usize::MAX, usize::MAX));
+            assert!(!is_held(kind, first + 1, usize::MAX));
+        }
     }
 
     #[test]
-    fn columns_are_held_from_300_to_999() {
-        assert!(columns(300, 700).is_held(1));
-        assert!(columns(999, 1).is_held(1));
-        assert!(!columns(299, 1).is_held(1));
-        assert!(!columns(999, 2).is_held(1));
-        assert!(!columns(1_000, 1).is_held(1));
+    fn settings_may_not_run_past_their_fields() {
+        let fit =
+            |integer: u16, flag: u16| Kinds::of(1, Firsts { integer, flag }).fit_their_fields();
+        assert!(fit(0, 0));
+        assert!(fit(0xF9C, 0xFED4));
+        assert!(!fit(0xF9D, 0));
+        assert!(!fit(0, 0xFED5));
+        assert!(!fit(0xFFFF, 0xFFFF));
     }
 
     #[test]
     fn runs_stand_in_their_area() {
-        assert_eq!(points(1, 2).place(), 0..80);
-        assert_eq!(points(16, 1).place(), 600..640);
-        assert_eq!(columns(300, 4).place(), 0..4);
-        assert_eq!(columns(999, 1).place(), 699..700);
+        let Kinds { points, columns, integers, flags } = kinds();
+        let place = |kind: Kind, start: usize, count: usize| Run { kind, start, count }.place();
+        assert_eq!(place(points, 1, 2), 0..80);
+        assert_eq!(place(points, 16, 1), 600..640);
+        assert_eq!(place(columns, 300, 4), 0..4);
+        assert_eq!(place(columns, 999, 1), 699..700);
+        assert_eq!(place(integers, 200, 100), 0..400);
+        assert_eq!(place(integers, 299, 1), 396..400);
+        assert_eq!(place(flags, 600, 1), 0..1);
+        assert_eq!(place(flags, 899, 1), 299..300);
+    }
+
+    #[test]
+    fn entries_are_told_apart_by_their_tags() {
+        let kinds = kinds();
+        assert_eq!(kinds.all().map(|kind| kind.tag), [0x50, 0x53, 0x49, 0x46]);
+        assert_eq!(kinds.with_tag(0x49), Some(kinds.integers));
+        assert_eq!(kinds.with_tag(0x47), None);
+        assert_eq!(kinds.all().map(|kind| kind.bytes()), [20_000, 700, 400, 300]);
     }
 
     #[test]

@@ -1,29 +1,32 @@
 //! A board on the bench: one set of areas and settings, fed with frames or with received bytes
 //! as the bench program of document 01 ("Bench listing") is.
 
-use crate::areas::{Board, AXES, RECORD};
+use crate::areas::{Board, Firsts, Settings, AXES, RECORD};
 use crate::digits;
 use crate::frames::{self, Found, LONGEST_REPLY};
 use crate::link;
+
+/// The bench's own settings.
+pub const SETTINGS: Settings =
+    Settings { fitted: 0xFF, station: 0x99, firsts: Firsts { integer: 200, flag: 600 } };
 
 #[derive(Clone, Debug)]
 pub struct Bench {
     pub board: Board,
     pub axes: Vec<u8>,
-    pub fitted: u8,
-    pub station: u8,
+    pub settings: Settings,
     pub reply: Vec<u8>,
     received: Vec<u8>,
 }
 
 impl Bench {
-    /// A fresh board: station 99H, all eight axes fitted, zero records.
+    /// A fresh board: station 99H, all eight axes fitted, zero records, integers from 200 on and
+    /// flags from 600 on.
     pub fn fresh(points: usize, journal_length: usize) -> Bench {
         Bench {
             board: Board::fresh(points, journal_length),
             axes: vec![0; AXES * RECORD],
-            fitted: 0xFF,
-            station: 0x99,
+            settings: SETTINGS,
             reply: vec![0; LONGEST_REPLY],
             received: Vec::new(),
         }
@@ -31,14 +34,19 @@ impl Bench {
 
     /// Hands over one frame; the number and the reply.
     pub fn hand(&mut self, frame: &[u8]) -> (u16, Vec<u8>) {
-        let Bench { board, axes, fitted, station, reply, .. } = self;
-        let outcome = link::answer(frame, board, axes, *fitted, *station, reply);
+        let Bench { board, axes, settings, reply, .. } = self;
+        let outcome = link::answer(frame, board, axes, *settings, reply);
         (outcome.number, self.reply[..outcome.reply_length].to_vec())
     }
 
     /// Hands over the command with this message ID and content, at the bench's own station.
     pub fn ask(&mut self, id_and_content: &str) -> (u16, Vec<u8>) {
-        self.hand(&command(self.station, id_and_content.as_bytes()))
+        self.hand(&command(self.settings.station, id_and_content.as_bytes()))
+    }
+
+    /// The step back; its number.
+    pub fn step_back(&mut self) -> u16 {
+        link::step_back(&mut self.board, self.settings.firsts)
     }
 
     /// Receives more bytes from the line; the replies, one after the other.

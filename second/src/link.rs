@@ -1,6 +1,6 @@
 //! The two calls: answering a frame and stepping back (document 01, "Refusal numbers").
 
-use crate::areas::{self, Axis, Board, Run};
+use crate::areas::{self, Area, Axis, Board, Firsts, Kind, Kinds, Run, Settings};
 use crate::frames::{self, LONGEST_REPLY};
 use crate::journal::{self, Entry};
 use crate::messages::{self, Asked};
@@ -15,7 +15,7 @@ pub struct Outcome {
 
 /// What the tests of the areas found out on the way.
 struct Sound {
-    points: usize,
+    kinds: Kinds,
     entries: Vec<Entry>,
 }
 
@@ -24,15 +24,15 @@ pub fn answer(
     frame: &[u8],
     board: &mut Board,
     axes: &[u8],
-    fitted: u8,
-    station: u8,
+    settings: Settings,
     reply: &mut [u8],
 ) -> Outcome {
-    let (sound, records) = match silent_tests(frame, board, axes, fitted, station, reply.len()) {
+    let (sound, records) = match silent_tests(frame, board, axes, settings, reply.len()) {
         Ok(found) => found,
         Err(number) => return Outcome { number, reply_length: 0 },
     };
-    let (number, text) = match messages::ask(frame, sound.points, fitted) {
+    let Settings { fitted, station, .. } = settings;
+    let (number, text) = match messages::ask(frame, &sound.kinds, fitted) {
         Ok(asked) => {
             let content = carry_out(&asked, board, &sound.entries, &records, fitted);
             let (id, _) = frames::id_and_content(frame);
@@ -44,9 +44,9 @@ pub fn answer(
     Outcome { number, reply_length: text.len() }
 }
 
-/// Takes the latest accepted write back; answers 0 or the refusal (2, 3, 4, then 9).
-pub fn step_back(board: &mut Board) -> u16 {
-    match area_tests(board) {
+/// Takes the latest accepted write back; answers 0 or the refusal (2, 3, 10, 4, then 9).
+pub fn step_back(board: &mut Board, firsts: Firsts) -> u16 {
+    match area_tests(board, firsts) {
         Err(number) => number,
         Ok(sound) => match sound.entries.last() {
             None => 9,
@@ -58,21 +58,20 @@ pub fn step_back(board: &mut Board) -> u16 {
     }
 }
 
-/// Tests 1 to 8, whose refusals have no reply.
+/// Tests 1 to 8, whose refusals have no reply, with 10 after 3.
 fn silent_tests(
     frame: &[u8],
     board: &Board,
     axes: &[u8],
-    fitted: u8,
-    station: u8,
+    settings: Settings,
     reply_area: usize,
 ) -> Result<(Sound, Vec<Axis>), u16> {
     if reply_area < LONGEST_REPLY {
         return Err(1);
     }
-    let sound = area_tests(board)?;
+    let sound = area_tests(board, settings.firsts)?;
     let records = areas::records(axes).ok_or(5u16)?;
-    if fitted == 0 {
+    if settings.fitted == 0 {
         return Err(5);
     }
     if !frames::has_shape(frame) {
@@ -81,24 +80,30 @@ fn silent_tests(
     if !frames::has_good_sc(frame) {
         return Err(7);
     }
-    if !frames::has_station(frame, station) {
+    if !frames::has_station(frame, settings.station) {
         return Err(8);
     }
     Ok((sound, records))
 }
 
-/// Tests 2, 3 and 4, which both calls make.
-fn area_tests(board: &Board) -> Result<Sound, u16> {
+/// Tests 2, 3, 10 and 4, which both calls make.
+fn area_tests(board: &Board, firsts: Firsts) -> Result<Sound, u16> {
     let points = board.points_held().ok_or(2u16)?;
-    if board.columns.len() != areas::COLUMNS {
+    let kinds = Kinds::of(points, firsts);
+    let has_its_length = |kind: Kind| board.area(kind.area).len() == kind.bytes();
+    if !has_its_length(kinds.columns) {
         return Err(3);
+    }
+    let new_areas = has_its_length(kinds.integers) && has_its_length(kinds.flags);
+    if !new_areas || !kinds.fit_their_fields() {
+        return Err(10);
     }
     if !journal::length_is_right(board.journal.len(), points) {
         return Err(4);
     }
     let used = board.journal.get(..board.used).ok_or(4u16)?;
-    let entries = journal::entries(used, points).ok_or(4u16)?;
-    Ok(Sound { points, entries })
+    let entries = journal::entries(used, &kinds).ok_or(4u16)?;
+    Ok(Sound { kinds, entries })
 }
 
 /// Does what is asked, all of it, and answers the reply's content.
@@ -113,21 +118,29 @@ fn carry_out(
         Asked::TestCall { text } => text.clone(),
         Asked::PointCount => replies::point_count(board),
         Asked::PointList { run } => replies::point_list(board, run),
-        Asked::ColumnQuery { program, run } => replies::columns(board, *program, run),
+        Asked::FlagQuery { program, run } => replies::flags(board, *program, run),
+        Asked::Query { program, run } => replies::run(board, *program, run),
         Asked::AxisStatus { pattern } => replies::axis_status(records, pattern & fitted),
         Asked::PointWrite { run, points } => {
             let slots: Vec<u8> = points.iter().flat_map(|point| point.to_slot()).collect();
             write(board, entries, run, &slots);
             replies::points_written(run)
         }
-        // 4-3-25 and 4-3-30: these two replies have no content.
+        // 4-3-25, 4-3-27 and 4-3-30: these replies have no content.
         Asked::PointClear { run } => {
             write(board, entries, run, &vec![0; run.place().len()]);
             Vec::new()
         }
-        Asked::ColumnWrite { run, bytes, .. } => {
-            write(board, entries, run, bytes);
+        Asked::FlagChange { run, change, .. } => {
+            write(board, entries, run, &[*change]);
             Vec::new()
+        }
+        Asked::Change { program, run, bytes } => {
+            write(board, entries, run, bytes);
+            match run.kind.area {
+                Area::Integers => replies::named(*program, run),
+                _ => Vec::new(),
+            }
         }
     }
 }
@@ -135,5 +148,5 @@ fn carry_out(
 /// One accepted write: the old bytes go to the journal before the new ones take their place.
 fn write(board: &mut Board, entries: &[Entry], run: &Run, new: &[u8]) {
     journal::add(board, run, entries);
-    board.area_mut(run.area)[run.place()].copy_from_slice(new);
+    board.area_mut(run.kind.area)[run.place()].copy_from_slice(new);
 }

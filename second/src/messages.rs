@@ -1,60 +1,71 @@
-//! What a frame asks, and the refusals 101 to 107 in their order (document 01, "Each message" and
-//! "Refusal numbers"; layouts of commands from document 000, 4-3-2 to 4-3-30).
+//! What a frame asks, and the refusals 101 to 108 in their order (document 01, "Each message" and
+//! "Refusal numbers"; document 02, a; layouts of commands from document 000, 4-3-2 to 4-3-30).
 
-use crate::areas::{axes_of, Area, Point, Run, AXES};
+use crate::areas::{axes_of, Kind, Kinds, Point, Run, AXES};
 use crate::digits::{all_digits, Fields};
 use crate::frames;
 
-/// What the content of a command asks, its layout being right.
+/// What the content of a command asks, its layout being right. A query and a change are of the bytes
+/// of a run, of integers (20EH, 24CH) or of columns (210H, 24EH).
 #[derive(Clone, Debug, PartialEq, Eq)]
 pub enum Asked {
     TestCall { text: Vec<u8> },
     PointCount,
     PointList { run: Run },
-    ColumnQuery { program: u32, run: Run },
+    FlagQuery { program: u32, run: Run },
+    Query { program: u32, run: Run },
     AxisStatus { pattern: u8 },
     PointWrite { run: Run, points: Vec<Point> },
     PointClear { run: Run },
-    ColumnWrite { program: u32, run: Run, bytes: Vec<u8> },
+    FlagChange { program: u32, run: Run, change: u8 },
+    Change { program: u32, run: Run, bytes: Vec<u8> },
 }
 
 /// Reads a frame that passed tests 6 to 8; Err is the refusal, the earliest that holds.
-pub(crate) fn ask(frame: &[u8], points: usize, fitted: u8) -> Result<Asked, u16> {
+pub(crate) fn ask(frame: &[u8], kinds: &Kinds, fitted: u8) -> Result<Asked, u16> {
     let (id, content) = frames::id_and_content(frame);
     let layout = layout_of(id).ok_or(101u16)?;
     if id != b"200" && !all_digits(content) {
         return Err(102);
     }
-    let asked = layout(content).ok_or(103u16)?;
+    let asked = layout(content, kinds).ok_or(103u16)?;
     if asked.program().is_some_and(|program| program != 0) {
         return Err(104);
     }
     if asked.run().is_some_and(|run| run.count == 0) {
         return Err(105);
     }
-    if asked.run().is_some_and(|run| !run.is_held(points)) {
+    if asked.run().is_some_and(|run| !run.is_held()) {
         return Err(106);
     }
     if asked.patterns().any(|pattern| pattern == 0 || pattern & !fitted != 0) {
         return Err(107);
     }
+    // 4-3-27 lists 0 (OFF) and 1 (ON); the other bits are reserved.
+    if matches!(asked, Asked::FlagChange { change, .. } if change > 1) {
+        return Err(108);
+    }
     Ok(asked)
 }
 
 /// Reads the content of one message; None when its length isn't this message's.
-type Layout = fn(&[u8]) -> Option<Asked>;
+type Layout = fn(&[u8], &Kinds) -> Option<Asked>;
 
 /// The layout of a known message; any other ID bytes are an unknown message.
 fn layout_of(id: &[u8]) -> Option<Layout> {
     match id {
-        b"200" => Some(test_call),
-        b"208" => Some(point_count),
-        b"209" => Some(|content| Some(Asked::PointList { run: points_named(content)? })),
-        b"210" => Some(column_query),
-        b"212" => Some(axis_status),
-        b"244" => Some(point_write),
-        b"246" => Some(|content| Some(Asked::PointClear { run: points_named(content)? })),
-        b"24E" => Some(column_write),
+        b"200" => Some(|content, _| test_call(content)),
+        b"208" => Some(|content, _| point_count(content)),
+        b"209" => Some(|content, kinds| point_list(content, kinds.points)),
+        b"20D" => Some(|content, kinds| flag_query(content, kinds.flags)),
+        b"20E" => Some(|content, kinds| query(content, kinds.integers)),
+        b"210" => Some(|content, kinds| query(content, kinds.columns)),
+        b"212" => Some(|content, _| axis_status(content)),
+        b"244" => Some(|content, kinds| point_write(content, kinds.points)),
+        b"246" => Some(|content, kinds| point_clear(content, kinds.points)),
+        b"24B" => Some(|content, kinds| flag_change(content, kinds.flags)),
+        b"24C" => Some(|content, kinds| change(content, kinds.integers)),
+        b"24E" => Some(|content, kinds| change(content, kinds.columns)),
         _ => None,
     }
 }
@@ -69,21 +80,39 @@ fn point_count(content: &[u8]) -> Option<Asked> {
     content.is_empty().then_some(Asked::PointCount)
 }
 
-/// 4-3-5 and 4-3-25: head number 3 digits, number of records 3.
-fn points_named(content: &[u8]) -> Option<Run> {
+/// 4-3-5: head number 3 digits, number of records 3.
+fn point_list(content: &[u8], points: Kind) -> Option<Asked> {
+    Some(Asked::PointList { run: points_named(content, points)? })
+}
+
+/// 4-3-25: the same fields.
+fn point_clear(content: &[u8], points: Kind) -> Option<Asked> {
+    Some(Asked::PointClear { run: points_named(content, points)? })
+}
+
+fn points_named(content: &[u8], points: Kind) -> Option<Run> {
     let mut fields = Fields::of(content);
-    let run = take_run(&mut fields, Area::Points, 3)?;
+    let run = take_run(&mut fields, points, 3, 3)?;
     fields.end()?;
     Some(run)
 }
 
-/// 4-3-11: program number 2 digits, start 3, count 2.
-fn column_query(content: &[u8]) -> Option<Asked> {
+/// 4-3-8: program number 2 digits, start 4, count 4. The start may be any held flag.
+fn flag_query(content: &[u8], flags: Kind) -> Option<Asked> {
     let mut fields = Fields::of(content);
     let program = fields.take(2)?;
-    let run = take_run(&mut fields, Area::Columns, 2)?;
+    let run = take_run(&mut fields, flags, 4, 4)?;
     fields.end()?;
-    Some(Asked::ColumnQuery { program, run })
+    Some(Asked::FlagQuery { program, run })
+}
+
+/// 4-3-9 and 4-3-11: program number 2 digits, start 3, count 2.
+fn query(content: &[u8], kind: Kind) -> Option<Asked> {
+    let mut fields = Fields::of(content);
+    let program = fields.take(2)?;
+    let run = take_run(&mut fields, kind, 3, 2)?;
+    fields.end()?;
+    Some(Asked::Query { program, run })
 }
 
 /// 4-3-12: axis pattern 2 digits.
@@ -95,9 +124,9 @@ fn axis_status(content: &[u8]) -> Option<Asked> {
 }
 
 /// 4-3-23: start 3 digits, count 3, then exactly count points.
-fn point_write(content: &[u8]) -> Option<Asked> {
+fn point_write(content: &[u8], points: Kind) -> Option<Asked> {
     let mut fields = Fields::of(content);
-    let run = take_run(&mut fields, Area::Points, 3)?;
+    let run = take_run(&mut fields, points, 3, 3)?;
     let mut points = Vec::new();
     for _ in 0..run.count {
         points.push(take_point(&mut fields)?);
@@ -106,24 +135,35 @@ fn point_write(content: &[u8]) -> Option<Asked> {
     Some(Asked::PointWrite { run, points })
 }
 
-/// 4-3-30: program number 2 digits, start 3, count 2, then two digits for each column.
-fn column_write(content: &[u8]) -> Option<Asked> {
+/// 4-3-27: program number 2 digits, flag number 4, change type 1.
+fn flag_change(content: &[u8], flags: Kind) -> Option<Asked> {
     let mut fields = Fields::of(content);
     let program = fields.take(2)?;
-    let run = take_run(&mut fields, Area::Columns, 2)?;
+    let run = Run { kind: flags, start: fields.take(4)? as usize, count: 1 };
+    let change = fields.take(1)? as u8;
+    fields.end()?;
+    Some(Asked::FlagChange { program, run, change })
+}
+
+/// 4-3-28 and 4-3-30: program number 2 digits, start 3, count 2, then two digits for each byte,
+/// high byte first: eight for an integer, two for a column.
+fn change(content: &[u8], kind: Kind) -> Option<Asked> {
+    let mut fields = Fields::of(content);
+    let program = fields.take(2)?;
+    let run = take_run(&mut fields, kind, 3, 2)?;
     let mut bytes = Vec::new();
-    for _ in 0..run.count {
+    for _ in 0..kind.unit * run.count {
         bytes.push(fields.take(2)? as u8);
     }
     fields.end()?;
-    Some(Asked::ColumnWrite { program, run, bytes })
+    Some(Asked::Change { program, run, bytes })
 }
 
-/// A start number of 3 digits and a count.
-fn take_run(fields: &mut Fields, area: Area, count_width: usize) -> Option<Run> {
-    let start = fields.take(3)? as usize;
-    let count = fields.take(count_width)? as usize;
-    Some(Run { area, start, count })
+/// A start number and a count of so many digits.
+fn take_run(fields: &mut Fields, kind: Kind, start: usize, count: usize) -> Option<Run> {
+    let start = fields.take(start)? as usize;
+    let count = fields.take(count)? as usize;
+    Some(Run { kind, start, count })
 }
 
 /// One point; its own pattern says how many positions follow, and those of absent axes are 0.
@@ -144,24 +184,27 @@ fn take_point(fields: &mut Fields) -> Option<Point> {
 }
 
 impl Asked {
-    /// The program number, in the two messages that have one.
+    /// The program number, in the six messages that have one.
     fn program(&self) -> Option<u32> {
         match self {
-            Asked::ColumnQuery { program, .. } | Asked::ColumnWrite { program, .. } => {
-                Some(*program)
-            }
+            Asked::FlagQuery { program, .. }
+            | Asked::Query { program, .. }
+            | Asked::FlagChange { program, .. }
+            | Asked::Change { program, .. } => Some(*program),
             _ => None,
         }
     }
 
-    /// The numbers named, in the five messages that name some.
+    /// The numbers named, in the nine messages that name some.
     fn run(&self) -> Option<Run> {
         match self {
             Asked::PointList { run }
-            | Asked::ColumnQuery { run, .. }
+            | Asked::FlagQuery { run, .. }
+            | Asked::Query { run, .. }
             | Asked::PointWrite { run, .. }
             | Asked::PointClear { run }
-            | Asked::ColumnWrite { run, .. } => Some(*run),
+            | Asked::FlagChange { run, .. }
+            | Asked::Change { run, .. } => Some(*run),
             Asked::TestCall { .. } | Asked::PointCount | Asked::AxisStatus { .. } => None,
         }
     }
@@ -179,35 +222,49 @@ impl Asked {
 #[cfg(test)]
 mod tests {
     use super::*;
+    use crate::areas::Firsts;
 
-    /// What ID and content ask of a board with 500 points and axes 1 to 4 fitted.
+    /// 500 points, integers 200 to 299 (0C8H to 12BH), flags 600 to 899 (0258H to 0383H).
+    fn kinds() -> Kinds {
+        Kinds::of(500, Firsts { integer: 200, flag: 600 })
+    }
+
+    /// What ID and content ask of such a board with axes 1 to 4 fitted.
     fn asked(id_and_content: &str) -> Result<Asked, u16> {
         let frame = ["!99", id_and_content, "@@\r\n"].concat();
-        ask(frame.as_bytes(), 500, 0x0F)
+        ask(frame.as_bytes(), &kinds(), 0x0F)
     }
 
     fn refusal(id_and_content: &str) -> Option<u16> {
         asked(id_and_content).err()
     }
 
-    fn run(area: Area, start: usize, count: usize) -> Run {
-        Run { area, start, count }
+    fn run(kind: Kind, start: usize, count: usize) -> Run {
+        Run { kind, start, count }
     }
 
     #[test]
-    fn the_eight_messages_are_read() {
+    fn the_messages_are_read() {
+        let Kinds { points, columns, integers, flags } = kinds();
         assert_eq!(asked("200any bytes!"), Ok(Asked::TestCall { text: b"any bytes!".to_vec() }));
         assert_eq!(asked("208"), Ok(Asked::PointCount));
-        let list = Asked::PointList { run: run(Area::Points, 16, 5) };
-        assert_eq!(asked("209010005"), Ok(list));
-        let query = Asked::ColumnQuery { program: 0, run: run(Area::Columns, 300, 4) };
+        assert_eq!(asked("209010005"), Ok(Asked::PointList { run: run(points, 16, 5) }));
+        let query = Asked::FlagQuery { program: 0, run: run(flags, 601, 299) };
+        assert_eq!(asked("20D000259012B"), Ok(query));
+        let query = Asked::Query { program: 0, run: run(integers, 200, 100) };
+        assert_eq!(asked("20E000C864"), Ok(query));
+        let query = Asked::Query { program: 0, run: run(columns, 300, 4) };
         assert_eq!(asked("2100012C04"), Ok(query));
         assert_eq!(asked("212C3"), Ok(Asked::AxisStatus { pattern: 0xC3 }));
-        let clear = Asked::PointClear { run: run(Area::Points, 1, 500) };
-        assert_eq!(asked("2460011F4"), Ok(clear));
+        assert_eq!(asked("2460011F4"), Ok(Asked::PointClear { run: run(points, 1, 500) }));
+        let change = Asked::FlagChange { program: 0, run: run(flags, 899, 1), change: 1 };
+        assert_eq!(asked("24B0003831"), Ok(change));
+        let bytes = vec![0x80, 0, 0, 0x47, 0x01, 0x23, 0x45, 0x67];
+        let change = Asked::Change { program: 0, run: run(integers, 298, 2), bytes };
+        assert_eq!(asked("24C0012A028000004701234567"), Ok(change));
         let bytes = vec![0x00, 0x47];
-        let write = Asked::ColumnWrite { program: 0, run: run(Area::Columns, 998, 2), bytes };
-        assert_eq!(asked("24E003E6020047"), Ok(write));
+        let change = Asked::Change { program: 0, run: run(columns, 998, 2), bytes };
+        assert_eq!(asked("24E003E6020047"), Ok(change));
     }
 
     #[test]
@@ -234,7 +291,7 @@ mod tests {
 
     #[test]
     fn other_ids_are_unknown_whatever_follows() {
-        for id in ["299", "201", "245", "24e", "2  ", "000", "20A", "\r\n2"] {
+        for id in ["299", "201", "245", "24e", "24b", "2  ", "000", "20A", "20C", "24D", "\r\n2"] {
             assert_eq!(refusal(id), Some(101));
             assert_eq!(refusal(&[id, "xyz"].concat()), Some(101));
         }
@@ -242,8 +299,19 @@ mod tests {
 
     #[test]
     fn content_bytes_must_be_digits_before_all_else() {
-        let wrong =
-            ["208x", "20900100a", "2100112c04", "212 1", "24400x", "246000 00", "24E0112B0141 "];
+        let wrong = [
+            "208x",
+            "20900100a",
+            "20D01FFFF000g",
+            "20E0107c00",
+            "2100112c04",
+            "212 1",
+            "24400x",
+            "246000 00",
+            "24B010000g",
+            "24C01FFF00:",
+            "24E0112B0141 ",
+        ];
         for frame in wrong {
             assert_eq!(refusal(frame), Some(102), "{frame}");
         }
@@ -259,6 +327,12 @@ mod tests {
             "209",
             "20900100",
             "2090010050",
+            "20D",
+            "20D000258001",
+            "20D00025800010",
+            "20E",
+            "20E000C80",
+            "20E000C8010",
             "210",
             "2100012C0",
             "2100012C040",
@@ -271,6 +345,16 @@ mod tests {
             "246",
             "24600100",
             "2460010010",
+            "24B",
+            "24B000258",
+            "24B00025801",
+            "24C",
+            "24C000C80",
+            "24C000C801",
+            "24C000C8010000000",
+            "24C000C801000000000",
+            "24C000C80200000000",
+            "24C000C80000000000",
             "24E",
             "24E0012C0",
             "24E0012C02004",
@@ -302,7 +386,13 @@ mod tests {
     fn programs_counts_and_numbers() {
         assert_eq!(refusal("2100112C00"), Some(104));
         assert_eq!(refusal("24E0112C00"), Some(104));
+        for frame in ["20D0102580000", "20E010C800", "24B0102582", "24C010C800"] {
+            assert_eq!(refusal(frame), Some(104), "{frame}");
+        }
         for frame in ["209001000", "2100000000", "246FFF000", "24E0000000", "209000000"] {
+            assert_eq!(refusal(frame), Some(105), "{frame}");
+        }
+        for frame in ["20D0000000000", "20D00FFFF0000", "20E0000000", "20E00FFF00", "24C00FFF00"] {
             assert_eq!(refusal(frame), Some(105), "{frame}");
         }
         for frame in ["209000001", "2091F5001", "2091F4002", "209FFFFFF", "246000001", "2460011F5"]
@@ -311,6 +401,21 @@ mod tests {
         }
         for frame in ["2100012B01", "210003E801", "210003E702", "24E0012B0100", "24E003E7020000"] {
             assert_eq!(refusal(frame), Some(106), "{frame}");
+        }
+        for frame in ["20E000C701", "20E0012B02", "20E0012C01", "20E000C865", "20E000C8FF"] {
+            assert_eq!(refusal(frame), Some(106), "{frame}");
+        }
+        for frame in ["24C000C70100000000", "24C0012C0100000000", "24C0012B020000000000000000"] {
+            assert_eq!(refusal(frame), Some(106), "{frame}");
+        }
+        for frame in ["20D0002570001", "20D0003840001", "20D0003830002", "20D000258012D"] {
+            assert_eq!(refusal(frame), Some(106), "{frame}");
+        }
+        for frame in ["20D000258FFFF", "20D00FFFFFFFF", "24B0002570", "24B0003841"] {
+            assert_eq!(refusal(frame), Some(106), "{frame}");
+        }
+        for frame in ["20D000258012C", "20D0003830001", "20E0012B01", "24B0002580", "24B0003830"] {
+            assert_eq!(refusal(frame), None, "{frame}");
         }
         assert_eq!(refusal("2091F4001"), None);
         assert_eq!(refusal("210003E701"), None);
@@ -329,5 +434,16 @@ mod tests {
         // Asking for an unfitted axis, or for none, is no fault.
         assert_eq!(refusal("21210"), None);
         assert_eq!(refusal("21200"), None);
+    }
+
+    #[test]
+    fn a_flag_is_changed_to_0_or_1() {
+        for digit in "23456789ABCDEF".chars() {
+            assert_eq!(refusal(&format!("24B000258{digit}")), Some(108), "{digit}");
+            assert_eq!(refusal(&format!("24B000257{digit}")), Some(106), "{digit}");
+            assert_eq!(refusal(&format!("24B010258{digit}")), Some(104), "{digit}");
+        }
+        assert_eq!(refusal("24B0002580"), None);
+        assert_eq!(refusal("24B0002581"), None);
     }
 }

@@ -1,6 +1,6 @@
 //! Contents of normal replies that carry data (document 000, the "Normal response" tables).
 
-use crate::areas::{axes_of, Area, Axis, Board, Point, Run, SLOT};
+use crate::areas::{axes_of, Axis, Board, Point, Run, SLOT};
 use crate::digits::push;
 use crate::frames::{LONGEST_REPLY, SHORTEST_FRAME};
 
@@ -47,15 +47,39 @@ fn listed_point(number: usize, point: &Point) -> Vec<u8> {
     text
 }
 
-/// 4-3-11: the command's fields again, then two digits for each column.
-pub(crate) fn columns(board: &Board, program: u32, run: &Run) -> Vec<u8> {
-    let mut content = Vec::new();
-    push(&mut content, program, 2);
-    push(&mut content, run.start as u32, 3);
-    push(&mut content, run.count as u32, 2);
-    for &byte in &board.area(Area::Columns)[run.place()] {
+/// 4-3-8: the command's fields again, then two digits for each eight flags begun: the first of the
+/// eight in bit 0, bits beyond the count 0.
+pub(crate) fn flags(board: &Board, program: u32, run: &Run) -> Vec<u8> {
+    let mut content = fields(program, run, 4, 4);
+    for eight in board.area(run.kind.area)[run.place()].chunks(8) {
+        // A flag is on where its byte isn't 00.
+        let bits = eight.iter().zip(0..).map(|(&byte, bit)| u32::from(byte != 0) << bit);
+        push(&mut content, bits.sum(), 2);
+    }
+    content
+}
+
+/// 4-3-9 and 4-3-11: the command's fields again, then two digits for each byte: eight for an
+/// integer, two for a column.
+pub(crate) fn run(board: &Board, program: u32, run: &Run) -> Vec<u8> {
+    let mut content = named(program, run);
+    for &byte in &board.area(run.kind.area)[run.place()] {
         push(&mut content, u32::from(byte), 2);
     }
+    content
+}
+
+/// 4-3-28, and the front of 4-3-9 and 4-3-11: program 2 digits, start 3, count 2.
+pub(crate) fn named(program: u32, run: &Run) -> Vec<u8> {
+    fields(program, run, 3, 2)
+}
+
+/// Program 2 digits, then start and count of so many.
+fn fields(program: u32, run: &Run, start: usize, count: usize) -> Vec<u8> {
+    let mut content = Vec::new();
+    push(&mut content, program, 2);
+    push(&mut content, run.start as u32, start);
+    push(&mut content, run.count as u32, count);
     content
 }
 
@@ -84,9 +108,15 @@ pub(crate) fn points_written(run: &Run) -> Vec<u8> {
 #[cfg(test)]
 mod tests {
     use super::*;
+    use crate::areas::{Firsts, Kinds};
+
+    /// Integers from 200 on, flags from 600 on.
+    fn kinds(points: usize) -> Kinds {
+        Kinds::of(points, Firsts { integer: 200, flag: 600 })
+    }
 
     fn all_of(points: usize) -> Run {
-        Run { area: Area::Points, start: 1, count: points }
+        Run { kind: kinds(points).points, start: 1, count: points }
     }
 
     /// A board whose slots have these patterns, first point first.
@@ -121,7 +151,7 @@ mod tests {
         board.points[15 * SLOT..16 * SLOT].copy_from_slice(&point.to_slot());
         let expected = b"00101005001E001F00640000C350FFFFFFFF";
         assert_eq!(point_list(&board, &all_of(20)), expected);
-        let after = Run { area: Area::Points, start: 17, count: 4 };
+        let after = Run { start: 17, count: 4, ..all_of(20) };
         assert_eq!(point_list(&board, &after), b"000");
     }
 
@@ -157,11 +187,40 @@ mod tests {
     }
 
     #[test]
-    fn columns_keep_every_digit() {
+    fn columns_and_integers_keep_every_digit() {
         let mut board = Board::fresh(1, 0);
         board.columns[..4].copy_from_slice(&[0x00, 0x30, 0x00, 0x47]);
-        let run = Run { area: Area::Columns, start: 300, count: 4 };
-        assert_eq!(columns(&board, 0, &run), b"0012C0400300047");
+        let columns = Run { kind: kinds(1).columns, start: 300, count: 4 };
+        assert_eq!(run(&board, 0, &columns), b"0012C0400300047");
+        board.integers[392..].copy_from_slice(&[0x00, 0x00, 0x00, 0x47, 0x80, 0x01, 0x02, 0x03]);
+        let integers = Run { kind: kinds(1).integers, start: 298, count: 2 };
+        assert_eq!(run(&board, 0, &integers), b"0012A020000004780010203");
+        assert_eq!(named(0, &integers), b"0012A02");
+        let all = Run { start: 200, count: 100, ..integers };
+        assert_eq!(run(&board, 0, &all).len(), 7 + 800);
+    }
+
+    #[test]
+    fn flags_are_bits_from_bit_0_and_none_beyond_the_count() {
+        let mut board = Board::fresh(1, 0);
+        let text = |board: &Board, start: usize, count: usize| {
+            let run = Run { kind: kinds(1).flags, start, count };
+            String::from_utf8_lossy(&flags(board, 0, &run)).into_owned()
+        };
+        for (at, byte) in [(0, 0x01), (3, 0xFF), (8, 0x30), (9, 0x01), (299, 0x80)] {
+            board.flags[at] = byte;
+        }
+        assert_eq!(text(&board, 600, 8), "000258000809");
+        assert_eq!(text(&board, 600, 9), "00025800090901");
+        assert_eq!(text(&board, 600, 10), "000258000A0903");
+        // From any start: 603 is the first of the eight, and 608 and 609 its sixth and seventh.
+        assert_eq!(text(&board, 603, 7), "00025B000761");
+        assert_eq!(text(&board, 603, 6), "00025B000621");
+        assert_eq!(text(&board, 899, 1), "000383000101");
+        let all = text(&board, 600, 300);
+        assert_eq!((all.len(), &all[10..14], &all[84..]), (86, "0903", "08"));
+        board.flags.fill(0x01);
+        assert_eq!(text(&board, 601, 3), "000259000307");
     }
 
     #[test]

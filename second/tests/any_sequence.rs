@@ -1,7 +1,8 @@
 //! Demands 1 and 3 on drawn inputs: any call ends and writes only what it may, and any sequence
 //! leaves what the writes not taken back would leave alone.
 
-use second::bench::{command, Bench};
+use second::areas::{Firsts, Settings};
+use second::bench::{command, Bench, SETTINGS};
 use second::frames::{closed, error_reply};
 use second::link::{answer, step_back};
 use second::{Board, Outcome};
@@ -31,6 +32,9 @@ impl Dice {
     }
 }
 
+/// The axes fitted throughout.
+const FITTED: u8 = 0x7F;
+
 /// ID and content of a command near the limits of a board with three points.
 fn content(dice: &mut Dice) -> String {
     let start = dice.pick(&[1, 1, 1, 2, 2, 3, 0, 4]);
@@ -38,7 +42,11 @@ fn content(dice: &mut Dice) -> String {
     let column = dice.pick(&[300, 300, 301, 500, 900, 998, 999, 299, 1_000]);
     let columns = dice.pick(&[0, 1, 2, 30, 100, 255]);
     let program = dice.pick(&["00", "00", "00", "00", "01"]);
-    match dice.roll(15) {
+    let integer = dice.pick(&[200, 200, 201, 250, 290, 298, 299, 199, 300]);
+    let integers = dice.pick(&[0, 1, 2, 8, 50, 100]);
+    let flag = dice.pick(&[600, 600, 601, 607, 608, 700, 898, 899, 599, 900]);
+    let flags = dice.pick(&[0, 1, 2, 8, 13, 300]);
+    match dice.roll(21) {
         0 => format!("200{}", dice.digits(10)),
         1 => "208".to_string(),
         2 => format!("209{start:03X}{count:03X}"),
@@ -47,6 +55,12 @@ fn content(dice: &mut Dice) -> String {
         5 | 6 => format!("246{start:03X}{count:03X}"),
         7..=9 => format!("24E{program}{column:03X}{columns:02X}{}", dice.digits(2 * columns)),
         10 => format!("2{}", dice.digits(2)),
+        11 => format!("20D{program}{flag:04X}{flags:04X}"),
+        12 => format!("20E{program}{integer:03X}{integers:02X}"),
+        13 | 14 => format!("24B{program}{flag:04X}{}", dice.pick(&["0", "1", "1", "2", "F"])),
+        15..=17 => {
+            format!("24C{program}{integer:03X}{integers:02X}{}", dice.digits(8 * integers))
+        }
         _ => {
             let points: String = (0..count).map(|_| point(dice)).collect();
             format!("244{start:03X}{count:03X}{points}")
@@ -88,17 +102,19 @@ fn frame(dice: &mut Dice) -> Vec<u8> {
 
 fn bench(journal_length: usize) -> Bench {
     let mut bench = Bench::fresh(3, journal_length);
-    bench.fitted = 0x7F;
+    bench.settings.fitted = FITTED;
     bench
 }
 
-/// Bytes of the entry an accepted write adds: 5+40p or 5+c; None for a query.
+/// Bytes of the entry an accepted write adds: 5+40p, 5+c, 5+4i or 6 for a flag; None for a query.
 fn entry_length(frame: &[u8]) -> Option<usize> {
     let field = |from: usize, to: usize| {
         usize::from_str_radix(&String::from_utf8_lossy(&frame[from..to]), 16).unwrap_or(0)
     };
     match &frame[3..6] {
         b"244" | b"246" => Some(5 + 40 * field(9, 12)),
+        b"24B" => Some(6),
+        b"24C" => Some(5 + 4 * field(11, 13)),
         b"24E" => Some(5 + field(11, 13)),
         _ => None,
     }
@@ -129,7 +145,7 @@ impl Sequence {
     /// A step back is refused only when the journal has no entry left.
     fn step_back(&mut self) {
         let expected = if self.entries.pop_back().is_some() { 0 } else { 9 };
-        assert_eq!(step_back(&mut self.bench.board), expected);
+        assert_eq!(self.bench.step_back(), expected);
         self.writes.truncate(self.writes.len() - usize::from(expected == 0));
     }
 
@@ -139,7 +155,7 @@ impl Sequence {
         assert!(board.journal[board.used..].iter().all(|&byte| byte == 0));
     }
 
-    /// Points and columns are as after the writes alone, in order, from fresh.
+    /// Points, columns, integers and flags are as after the writes alone, in order, from fresh.
     fn check_by_replay(&self) {
         let mut alone = bench(65_536);
         for frame in &self.writes {
@@ -147,6 +163,8 @@ impl Sequence {
         }
         assert_eq!(self.bench.board.points, alone.board.points);
         assert_eq!(self.bench.board.columns, alone.board.columns);
+        assert_eq!(self.bench.board.integers, alone.board.integers);
+        assert_eq!(self.bench.board.flags, alone.board.flags);
     }
 }
 
@@ -155,7 +173,7 @@ fn a_sequence_leaves_what_the_writes_not_taken_back_leave() {
     let (mut seen, mut dropped) = (BTreeSet::new(), 0);
     for seed in 1..=60u64 {
         let mut dice = Dice(seed * 0x9E37_79B9);
-        let bench = bench(dice.pick(&[420, 421, 500, 1_000]));
+        let bench = bench(dice.pick(&[620, 621, 700, 1_200]));
         let mut sequence =
             Sequence { bench, writes: Vec::new(), entries: VecDeque::new(), dropped: 0 };
         for _ in 0..200 {
@@ -173,30 +191,43 @@ fn a_sequence_leaves_what_the_writes_not_taken_back_leave() {
     }
     // The draw reaches what it is for.
     let seen: Vec<u16> = seen.into_iter().collect();
-    assert_eq!(seen, [0, 6, 7, 8, 101, 102, 103, 104, 105, 106, 107]);
+    assert_eq!(seen, [0, 6, 7, 8, 101, 102, 103, 104, 105, 106, 107, 108]);
     assert!(dropped > 500, "{dropped}");
 }
 
 /// A board of drawn lengths and bytes, often sound.
 fn any_board(dice: &mut Dice) -> Board {
-    let mut bench = bench(420);
+    let mut bench = bench(620);
     for _ in 0..dice.roll(4) {
         bench.hand(&frame(dice));
     }
     let mut board = bench.board;
     let length = dice.pick(&[0, 1, 39, 40, 80, 120, 121, 60_000, 60_040]);
     let at = dice.roll(20);
-    match dice.roll(10) {
+    match dice.roll(14) {
         0 => board.points.resize(length, 0x55),
         1 => board.columns = dice.bytes(length.min(700)),
-        2 => board.journal.resize(length + 300, 0x50),
-        3 => board.used = dice.pick(&[1, 45, 419, 420, 421, usize::MAX]),
+        2 => board.journal.resize(length + 500, 0x50),
+        3 => board.used = dice.pick(&[1, 45, 619, 620, 621, usize::MAX]),
         4 => board.journal[at] = dice.roll(256) as u8,
         5 => board.points = dice.bytes(120),
-        6 => board = Board { points: vec![], columns: vec![], journal: vec![], used: at },
+        6 => board = Board { points: vec![], columns: vec![], used: at, ..Board::fresh(0, 0) },
+        7 => board.integers = dice.bytes(length.min(400)),
+        8 => board.flags = dice.bytes(length.min(300)),
+        9 => board.flags = dice.bytes(300),
         _ => {}
     }
     board
+}
+
+/// First numbers, often the bench's, now and then ones that run past.
+fn any_firsts(dice: &mut Dice) -> Firsts {
+    let bench = SETTINGS.firsts;
+    match dice.roll(8) {
+        0 => Firsts { integer: dice.pick(&[0, 199, 201, 0xF9C, 0xF9D, 0xFFFF]), ..bench },
+        1 => Firsts { flag: dice.pick(&[0, 599, 601, 0xFED4, 0xFED5, 0xFFFF]), ..bench },
+        _ => bench,
+    }
 }
 
 /// Checks the reply area after a call; `text` is the reply and `frame` what was answered.
@@ -207,7 +238,7 @@ fn check_reply(number: u16, text: &[u8], frame: &[u8]) {
             assert_eq!(text[..6], [b"#99", &frame[3..6]].concat());
             assert_eq!(text, closed(text[..text.len() - 4].to_vec()));
         }
-        1..=8 => assert!(text.is_empty()),
+        1..=10 => assert!(text.is_empty()),
         _ => assert_eq!(text, error_reply(0x99, number)),
     }
 }
@@ -225,14 +256,15 @@ fn any_call_ends_and_writes_only_what_it_may() {
         let area = dice.pick(&[1_024, 1_024, 1_024, 1_500, 1_023, 1_024, 1_024, 0]);
         let mut reply = dice.bytes(area);
         let (board_before, reply_before) = (board.clone(), reply.clone());
+        let settings = Settings { fitted, station: 0x99, firsts: any_firsts(&mut dice) };
         let Outcome { number, reply_length } =
-            answer(&frame, &mut board, &axes, fitted, 0x99, &mut reply);
+            answer(&frame, &mut board, &axes, settings, &mut reply);
         seen.insert(number);
         check_reply(number, &reply[..reply_length], &frame);
         assert_eq!(reply[reply_length..], reply_before[reply_length..]);
         assert!(number == 0 || board == board_before);
     }
-    let expected: Vec<u16> = (0..=8).chain(101..=107).collect();
+    let expected: Vec<u16> = (0..=8).chain([10]).chain(101..=108).collect();
     assert_eq!(seen.into_iter().collect::<Vec<u16>>(), expected);
 }
 
@@ -243,7 +275,7 @@ fn any_step_back_ends_and_a_refused_one_changes_nothing() {
     for _ in 0..5_000 {
         let mut board = any_board(&mut dice);
         let before = board.clone();
-        let number = step_back(&mut board);
+        let number = step_back(&mut board, any_firsts(&mut dice));
         seen.insert(number);
         if number == 0 {
             assert!(board.used < before.used);
@@ -251,7 +283,7 @@ fn any_step_back_ends_and_a_refused_one_changes_nothing() {
             assert_eq!(board, before);
         }
     }
-    assert_eq!(seen.into_iter().collect::<Vec<u16>>(), [0, 2, 3, 4, 9]);
+    assert_eq!(seen.into_iter().collect::<Vec<u16>>(), [0, 2, 3, 4, 9, 10]);
 }
 
 #[test]
@@ -268,9 +300,9 @@ fn a_line_gives_the_same_replies_however_it_is_cut() {
                 line.extend(vec![b'0'; 1_000 + dice.roll(40)]);
             }
         }
-        let mut whole = bench(420);
+        let mut whole = bench(620);
         let replies = whole.receive(&line);
-        let mut cut = bench(420);
+        let mut cut = bench(620);
         let mut pieces = Vec::new();
         let mut rest = line.as_slice();
         while !rest.is_empty() {

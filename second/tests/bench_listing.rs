@@ -26,7 +26,9 @@ fn whole_input_gives_whole_output() {
     assert_eq!(bench.receive(INPUT), OUTPUT);
     assert_eq!(bench.board.points[..40], point_1());
     assert!(bench.board.points[40..].iter().all(|&byte| byte == 0));
-    assert!(bench.board.columns.iter().all(|&byte| byte == 0));
+    for area in [&bench.board.columns, &bench.board.integers, &bench.board.flags] {
+        assert!(area.iter().all(|&byte| byte == 0));
+    }
     assert_eq!(bench.board.used, 45);
     assert_eq!(bench.board.journal[..5], [0x50, 0, 42, 0, 1]);
     assert!(bench.board.journal[5..].iter().all(|&byte| byte == 0));

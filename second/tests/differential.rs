@@ -1,10 +1,11 @@
 //! The comparison itself: it finds no fault in the second program, reaches every number and
 //! message, and catches boards that are wrong, document 01's useless ones among them.
 
-use second::areas::SLOT;
-use second::differential::calls::Settings;
+use second::areas::{Firsts, Settings, FLAGS, INTEGER, INTEGERS, SLOT};
 use second::differential::{run, Areas, Calls, Finding, Here, Plan, Player, SecondProgram, Tally};
-use second::Outcome;
+use second::frames::closed;
+use second::journal::least_length;
+use second::{Board, Outcome};
 
 fn plan(calls: usize) -> Plan {
     Plan { seed: 20_261_115, calls, show: 0 }
@@ -43,9 +44,18 @@ enum Wrong {
     FindsFramesOfAnyLength,
     DropsTheWholeOverlongRun,
     GivesAnotherErrorNumber,
+    StoresIntegersLowByteFirst,
+    StoresOnlyTheFirstInteger,
+    EntersIntegersAsColumns,
+    ShowsFlagsFromBit7,
+    ShowsFlagsBeyondTheCount,
+    StoresTheChangeTypesDigit,
+    Tests10After4,
+    TakesAShorterJournal,
+    AdmitsFlagsFromFED5,
 }
 
-const ALL: [Wrong; 14] = [
+const ALL: [Wrong; 23] = [
     Wrong::RefusesAll,
     Wrong::ConstantReply,
     Wrong::StoresNothing,
@@ -60,33 +70,128 @@ const ALL: [Wrong; 14] = [
     Wrong::FindsFramesOfAnyLength,
     Wrong::DropsTheWholeOverlongRun,
     Wrong::GivesAnotherErrorNumber,
+    Wrong::StoresIntegersLowByteFirst,
+    Wrong::StoresOnlyTheFirstInteger,
+    Wrong::EntersIntegersAsColumns,
+    Wrong::ShowsFlagsFromBit7,
+    Wrong::ShowsFlagsBeyondTheCount,
+    Wrong::StoresTheChangeTypesDigit,
+    Wrong::Tests10After4,
+    Wrong::TakesAShorterJournal,
+    Wrong::AdmitsFlagsFromFED5,
 ];
+
+/// The number in these digits of an accepted frame.
+fn field(frame: &[u8], from: usize, to: usize) -> usize {
+    let digits = String::from_utf8_lossy(&frame[from..to]);
+    usize::from_str_radix(&digits, 16).unwrap_or(0)
+}
 
 impl Wrong {
     fn is(self, other: Wrong) -> bool {
         self == other
     }
 
-    /// Spoils the areas after an accepted write whose old points are these.
-    fn spoil_areas(self, frame: &[u8], areas: &mut Areas, old: &[u8]) {
-        let point_write = &frame[3..6] == b"244";
+    /// Spoils the areas after an accepted frame that found this board.
+    fn spoil_areas(self, frame: &[u8], areas: &mut Areas, old: &Board, firsts: Firsts) {
+        match &frame[3..6] {
+            b"244" => self.spoil_points(frame, areas, old),
+            b"24B" if self.is(Wrong::StoresTheChangeTypesDigit) => {
+                let at = field(frame, 8, 12) - usize::from(firsts.flag);
+                areas.flags[at] = frame[12];
+            }
+            b"24C" => self.spoil_integers(frame, areas, old, firsts),
+            b"208" if self.is(Wrong::StepsBackAQuery) => {
+                SecondProgram.step_back(areas, firsts);
+            }
+            _ => {}
+        }
         if self.is(Wrong::StoresNothing) {
-            areas.points.copy_from_slice(old);
+            areas.points.copy_from_slice(&old.points);
         }
-        if self.is(Wrong::StoresOnlyTheFirstPoint) && point_write {
-            let digits = std::str::from_utf8(&frame[6..9]).unwrap_or("1");
-            let first = SLOT * usize::from_str_radix(digits, 16).unwrap_or(1);
-            areas.points[first..].copy_from_slice(&old[first..]);
+    }
+
+    fn spoil_points(self, frame: &[u8], areas: &mut Areas, old: &Board) {
+        if self.is(Wrong::StoresOnlyTheFirstPoint) {
+            let after = SLOT * field(frame, 6, 9);
+            areas.points[after..].copy_from_slice(&old.points[after..]);
         }
-        if self.is(Wrong::InventsTheUsedLength) && point_write {
+        if self.is(Wrong::InventsTheUsedLength) {
             areas.used += 1;
         }
-        if self.is(Wrong::LeavesBytesBeyondTheUsedLength) && point_write {
-            let used = areas.used;
-            areas.journal[used..].fill(0xEE);
+        if self.is(Wrong::LeavesBytesBeyondTheUsedLength) {
+            areas.journal[areas.used..].fill(0xEE);
         }
-        if self.is(Wrong::StepsBackAQuery) && &frame[3..6] == b"208" {
-            SecondProgram.step_back(areas);
+    }
+
+    fn spoil_integers(self, frame: &[u8], areas: &mut Areas, old: &Board, firsts: Firsts) {
+        let from = INTEGER * (field(frame, 8, 11) - usize::from(firsts.integer));
+        let bytes = INTEGER * field(frame, 11, 13);
+        if self.is(Wrong::StoresIntegersLowByteFirst) {
+            let named = &mut areas.integers[from..from + bytes];
+            named.chunks_mut(INTEGER).for_each(|integer| integer.reverse());
+        }
+        if self.is(Wrong::StoresOnlyTheFirstInteger) {
+            let after = from + INTEGER;
+            areas.integers[after..].copy_from_slice(&old.integers[after..]);
+        }
+        if self.is(Wrong::EntersIntegersAsColumns) {
+            areas.journal[areas.used - 5 - bytes] = 0x53;
+        }
+    }
+
+    /// Replaces the bytes of a 20DH's reply, of which each shows eight flags, by these.
+    fn show(reply: &mut [u8], length: usize, of: impl Fn(usize, u8) -> u8) {
+        let mut text = reply[..length - 4].to_vec();
+        for (at, pair) in text[16..].chunks_mut(2).enumerate() {
+            let shown = of(at, field(pair, 0, 2) as u8);
+            pair.copy_from_slice(format!("{shown:02X}").as_bytes());
+        }
+        reply[..length].copy_from_slice(&closed(text));
+    }
+
+    fn spoil_flags_shown(self, frame: &[u8], flags: &[u8], firsts: Firsts, reply: &mut [u8]) {
+        let count = field(frame, 12, 16);
+        let length = 20 + 2 * count.div_ceil(8);
+        if self.is(Wrong::ShowsFlagsFromBit7) {
+            Wrong::show(reply, length, |_, shown| shown.reverse_bits());
+        }
+        if self.is(Wrong::ShowsFlagsBeyondTheCount) {
+            let from = &flags[field(frame, 8, 12) - usize::from(firsts.flag)..];
+            let eight = |at: usize| from[8 * at..].iter().take(8).zip(0..);
+            Wrong::show(reply, length, |at, _| {
+                eight(at).map(|(&byte, bit)| u8::from(byte != 0) << bit).sum()
+            });
+        }
+    }
+
+    /// Answers otherwise where a sound board refuses; None leaves the refusal.
+    fn admit(
+        self,
+        number: u16,
+        areas: &Areas,
+        firsts: Firsts,
+        mut again: impl FnMut(&mut Areas, Firsts) -> Outcome,
+    ) -> Option<Outcome> {
+        let mut copy = owned(areas);
+        let points = copy.points.len() / SLOT;
+        match self {
+            Wrong::Tests10After4 if number == 10 => {
+                copy.integers.resize(INTEGER * INTEGERS, 0);
+                copy.flags.resize(FLAGS, 0);
+                let outcome = again(&mut lent(&mut copy), firsts);
+                (outcome.number == 4).then_some(outcome)
+            }
+            Wrong::TakesAShorterJournal if number == 4 => {
+                let short = least_length(points) - 200..least_length(points);
+                let is_short = short.contains(&copy.journal.len());
+                copy.journal.resize(least_length(points), 0);
+                is_short.then(|| again(&mut lent(&mut copy), firsts))
+            }
+            Wrong::AdmitsFlagsFromFED5 if number == 10 && firsts.flag == 0xFED5 => {
+                Some(again(&mut lent(&mut copy), Firsts { flag: 0xFED4, ..firsts }))
+            }
+            _ => None,
         }
     }
 
@@ -105,6 +210,30 @@ impl Wrong {
             Wrong::GivesAnotherErrorNumber if outcome.number == 107 => outcome.number = 106,
             _ => {}
         }
+    }
+}
+
+/// A board with the bytes of these areas.
+fn owned(areas: &Areas) -> Board {
+    Board {
+        points: areas.points.to_vec(),
+        columns: areas.columns.to_vec(),
+        integers: areas.integers.to_vec(),
+        flags: areas.flags.to_vec(),
+        journal: areas.journal.to_vec(),
+        used: areas.used,
+    }
+}
+
+/// The areas of a board.
+fn lent(board: &mut Board) -> Areas<'_> {
+    Areas {
+        points: &mut board.points,
+        columns: &mut board.columns,
+        integers: &mut board.integers,
+        flags: &mut board.flags,
+        journal: &mut board.journal,
+        used: board.used,
     }
 }
 
@@ -135,17 +264,29 @@ impl Calls for Wrong {
         if self.is(Wrong::RefusesAll) {
             return Outcome { number: 6, reply_length: 0 };
         }
-        let old = areas.points.to_vec();
+        let old = owned(areas);
+        let firsts = settings.firsts;
         let mut outcome = SecondProgram.answer(frame, areas, axes, settings, reply);
         if outcome.number == 0 {
-            self.spoil_areas(frame, areas, &old);
+            self.spoil_areas(frame, areas, &old, firsts);
+            if &frame[3..6] == b"20D" {
+                self.spoil_flags_shown(frame, &old.flags, firsts, reply);
+            }
         }
         self.spoil_reply(frame, &mut outcome, reply);
-        outcome
+        let admitted = self.admit(outcome.number, areas, firsts, |areas, firsts| {
+            SecondProgram.answer(frame, areas, axes, Settings { firsts, ..settings }, reply)
+        });
+        admitted.unwrap_or(outcome)
     }
 
-    fn step_back(&self, areas: &mut Areas) -> u16 {
-        SecondProgram.step_back(areas)
+    fn step_back(&self, areas: &mut Areas, firsts: Firsts) -> u16 {
+        let number = SecondProgram.step_back(areas, firsts);
+        let admitted = self.admit(number, areas, firsts, |areas, firsts| Outcome {
+            number: SecondProgram.step_back(areas, firsts),
+            reply_length: 0,
+        });
+        admitted.map_or(number, |outcome| outcome.number)
     }
 }
 

@@ -1,7 +1,7 @@
-//! The eight messages: what each does and its reply byte for byte (document 01, "Each message";
-//! document 000, sections 4-3-2 to 4-3-30).
+//! The twelve messages: what each does and its reply byte for byte (document 01, "Each message";
+//! document 02, a; document 000, sections 4-3-2 to 4-3-30).
 
-use second::areas::SLOT;
+use second::areas::{Firsts, SLOT};
 use second::bench::Bench;
 use second::Board;
 
@@ -98,7 +98,7 @@ fn a_long_list_is_cut_to_1024_bytes_even_in_a_larger_area() {
 #[test]
 fn spoiled_slots_are_listed_as_they_are_stored() {
     let mut bench = bench();
-    bench.fitted = 0x01;
+    bench.settings.fitted = 0x01;
     bench.board.points[..SLOT].fill(0x12);
     let expected = ["#9920900100112", "1212", "1212", "1212", "12121212", "12121212"].concat();
     assert_eq!(reply(&mut bench, "209001001"), expected);
@@ -140,11 +140,11 @@ fn axis_status_leaves_unfitted_axes_out() {
     let axis_3 = "133AB3C3FFF9E580";
     let axis_8 = "188AB8C8FFF9E580";
     assert_eq!(reply(&mut bench, "21285"), ["#9921285", axis_1, axis_3, axis_8].concat());
-    bench.fitted = 0x84;
+    bench.settings.fitted = 0x84;
     assert_eq!(reply(&mut bench, "21287"), ["#9921284", axis_3, axis_8].concat());
     assert_eq!(reply(&mut bench, "21203"), "#9921200");
     assert_eq!(reply(&mut bench, "21200"), "#9921200");
-    bench.fitted = 0xFF;
+    bench.settings.fitted = 0xFF;
     assert_eq!(bench.ask("212FF").1.len(), 140);
 }
 
@@ -171,7 +171,7 @@ fn point_write_rewrites_slots_whole() {
 #[test]
 fn a_bulk_write_refused_at_its_ninth_point_stores_none() {
     let mut bench = bench();
-    bench.fitted = 0x01;
+    bench.settings.fitted = 0x01;
     let eight = "01001E001E006400000001".repeat(8);
     let (number, _) = bench.ask(&["244001009", &eight, "02001E001E006400000001"].concat());
     assert_eq!(number, 107);
@@ -208,12 +208,118 @@ fn string_change_sets_one_byte_a_column() {
 }
 
 #[test]
+fn integer_query_repeats_and_adds_eight_digits_an_integer() {
+    let mut bench = bench();
+    // 4-3-9: 17 bytes of command, 17 and 8 for each of reply.
+    assert_eq!(reply(&mut bench, "20E000C801"), "#9920E000C80100000000");
+    bench.board.integers[..4].copy_from_slice(&[0x00, 0x00, 0x00, 0x2F]);
+    bench.board.integers[396..].copy_from_slice(&[0x80, 0x01, 0x02, 0x03]);
+    assert_eq!(reply(&mut bench, "20E000C802"), "#9920E000C8020000002F00000000");
+    assert_eq!(reply(&mut bench, "20E0012B01"), "#9920E0012B0180010203");
+    let (number, all) = bench.ask("20E000C864");
+    assert_eq!((number, all.len()), (0, 817));
+    assert_eq!((&all[13..21], &all[805..813]), (&b"0000002F"[..], &b"80010203"[..]));
+}
+
+#[test]
+fn integer_change_stores_high_byte_first_and_repeats() {
+    let mut bench = bench();
+    bench.board.integers.fill(0x5A);
+    // 23+39+39+32+34+43+30+30+30+43+38+30+32 (hexadecimal) is 2AB.
+    let change = bench.ask("24C000C8020000002F80000001");
+    assert_eq!(change, (0, b"#9924C000C802AB\r\n".to_vec()));
+    assert_eq!(bench.board.integers[..9], [0, 0, 0, 0x2F, 0x80, 0, 0, 1, 0x5A]);
+    assert_eq!(reply(&mut bench, "24C0012B0101234567"), "#9924C0012B01");
+    assert_eq!(bench.board.integers[395..], [0x5A, 0x01, 0x23, 0x45, 0x67]);
+    assert_eq!(bench.board.used, 13 + 9);
+}
+
+#[test]
+fn integers_read_back_with_every_digit_whole_in_part_and_one_by_one() {
+    let mut bench = bench();
+    let values: Vec<String> =
+        (0..100u32).map(|at| format!("{:08X}", at.wrapping_mul(0x8765_4321))).collect();
+    let all = second::bench::command(0x99, ["24C000C864", &values.concat()].concat().as_bytes());
+    assert_eq!(all.len(), 817);
+    assert_eq!(bench.hand(&all).0, 0);
+    for (at, count) in (0..100).map(|at| (at, 1)).chain([(0, 100), (1, 99), (37, 20)]) {
+        let fields = format!("00{:03X}{count:02X}", 200 + at);
+        let expected = ["#9920E", &fields, &values[at..at + count].concat()].concat();
+        assert_eq!(reply(&mut bench, &["20E", &fields].concat()), expected);
+    }
+}
+
+#[test]
+fn flag_query_repeats_and_adds_a_bit_a_flag() {
+    let mut bench = bench();
+    // 4-3-8: 20 bytes of command, 20 and 2 for each eight flags begun of reply.
+    assert_eq!(reply(&mut bench, "20D0002580001"), "#9920D000258000100");
+    for (flag, byte) in [(0, 0x01), (2, 0x30), (7, 0x80), (8, 0x01), (9, 0xFF), (299, 0x02)] {
+        bench.board.flags[flag] = byte;
+    }
+    assert_eq!(reply(&mut bench, "20D0002580008"), "#9920D000258000885");
+    assert_eq!(reply(&mut bench, "20D0002580009"), "#9920D00025800098501");
+    // Bits beyond the count are 0, though the next flag is on.
+    assert_eq!(reply(&mut bench, "20D0002580007"), "#9920D000258000705");
+    // Any start will do: 602, 607, 608 and 609 are on.
+    assert_eq!(reply(&mut bench, "20D00025A0008"), "#9920D00025A0008E1");
+    assert_eq!(reply(&mut bench, "20D0003830001"), "#9920D000383000101");
+    let (number, all) = bench.ask("20D000258012C");
+    assert_eq!((number, all.len()), (0, 96));
+    assert_eq!((&all[16..20], &all[90..92]), (&b"8503"[..], &b"08"[..]));
+}
+
+#[test]
+fn flag_change_stores_00_or_01_and_moves_no_other_flag() {
+    let mut bench = bench();
+    for at in [0, 1, 150, 299] {
+        let flag = 600 + at;
+        for (digit, byte, shown) in [("1", 0x01, "01"), ("0", 0x00, "00")] {
+            bench.board.flags.fill(0x5A);
+            let (number, text) = bench.ask(&format!("24B00{flag:04X}{digit}"));
+            assert_eq!((number, text), (0, b"#9924B3D\r\n".to_vec())); // no content (4-3-27)
+            assert_eq!(bench.board.flags[at], byte);
+            assert_eq!(bench.board.flags.iter().filter(|&&byte| byte == 0x5A).count(), 299);
+            let query = format!("20D00{flag:04X}0001");
+            assert_eq!(reply(&mut bench, &query), format!("#99{query}{shown}"));
+        }
+    }
+    assert_eq!(bench.board.used, 8 * 6);
+}
+
+#[test]
+fn first_numbers_are_settings() {
+    // The greatest ones: integers F9CH to FFFH, flags FED4H to FFFFH.
+    let mut bench = bench();
+    bench.settings.firsts = Firsts { integer: 0xF9C, flag: 0xFED4 };
+    assert_eq!(reply(&mut bench, "24C00FFF0189ABCDEF"), "#9924C00FFF01");
+    assert_eq!(bench.board.integers[396..], [0x89, 0xAB, 0xCD, 0xEF]);
+    assert_eq!(reply(&mut bench, "24B00FFFF1"), "#9924B");
+    assert_eq!(bench.board.flags[299], 0x01);
+    assert_eq!(reply(&mut bench, "20E00F9C01"), "#9920E00F9C0100000000");
+    assert_eq!(reply(&mut bench, "20D00FED40001"), "#9920D00FED4000100");
+    for outside in ["20E00F9B01", "20E00FFF02", "20D00FED30001", "20D00FFFF0002", "24B00FED31"] {
+        assert_eq!(bench.ask(outside).0, 106, "{outside}");
+    }
+    // The least ones, and no entry that names a number of the greatest.
+    bench.settings.firsts = Firsts { integer: 0, flag: 0 };
+    bench.board.used = 0;
+    assert_eq!(reply(&mut bench, "20E0006301"), "#9920E000630189ABCDEF");
+    assert_eq!(reply(&mut bench, "20D00012B0001"), "#9920D00012B000101");
+    for outside in ["20E0006401", "20D00012C0001", "24B00012C0"] {
+        assert_eq!(bench.ask(outside).0, 106, "{outside}");
+    }
+}
+
+#[test]
 fn queries_change_nothing() {
     let mut bench = bench();
     reply(&mut bench, "24E0012C0141");
     bench.board.journal[6..].fill(0xEE); // stands beyond the used length: no query's concern
+    bench.board.flags.fill(0x30);
     let before = bench.board.clone();
-    for query in ["200..........", "208", "209001014", "2100012C10", "212FF"] {
+    let queries = ["200..........", "208", "209001014", "2100012C10", "212FF"];
+    for query in queries.into_iter().chain(["20D000258012C", "20E000C864"]) {
         reply(&mut bench, query);
         assert_eq!(bench.board, before, "{query}");
     }
@@ -229,7 +335,7 @@ fn document_000_example_with_point_000_names_no_held_point() {
 #[test]
 fn replies_carry_the_boards_own_station() {
     let mut bench = bench();
-    bench.station = 0x0A;
+    bench.settings.station = 0x0A;
     assert_eq!(reply(&mut bench, "208"), "#0A208000");
     assert_eq!(bench.ask("299").1[..6], *b"&0A101");
 }

@@ -89,7 +89,7 @@ fn case_11_empty_input() {
 
 #[test]
 fn case_12_start_5dc_is_the_last_of_1500() {
-    let mut bench = Bench::fresh(1_500, 60_300);
+    let mut bench = Bench::fresh(1_500, 60_500);
     assert_eq!(bench.ask("2095DC001").0, 0);
     assert_eq!(bench.ask("2095DD001").0, 106);
     let point = "01000000000000FFFFFFFF";

@@ -1,7 +1,8 @@
 //! Each refusal number, and that the earliest whose condition holds is given (document 01,
 //! "Refusal numbers, in the order tested").
 
-use second::bench::Bench;
+use second::areas::{Firsts, Settings};
+use second::bench::{Bench, SETTINGS};
 use second::frames::{closed, error_reply};
 use second::link::{answer, step_back};
 use second::{Board, Outcome};
@@ -12,22 +13,20 @@ struct Call {
     frame: Vec<u8>,
     board: Board,
     axes: Vec<u8>,
-    fitted: u8,
-    station: u8,
+    settings: Settings,
     reply: Vec<u8>,
 }
 
 impl Call {
     /// A good call on a board with two points and one entry in the journal.
     fn good(id_and_content: &str) -> Call {
-        let mut bench = Bench::fresh(2, 380);
+        let mut bench = Bench::fresh(2, 580);
         assert_eq!(bench.ask("24E0012C0141").0, 0);
         Call {
             frame: frame(b"!99", id_and_content),
             board: bench.board,
             axes: vec![0; 72],
-            fitted: 0x0F,
-            station: 0x99,
+            settings: Settings { fitted: 0x0F, ..SETTINGS },
             reply: vec![0xEE; 1_024],
         }
     }
@@ -38,7 +37,7 @@ impl Call {
         let outcome = after.make();
         let mut expected = self.clone();
         if outcome.number >= 100 {
-            let error = error_reply(self.station, outcome.number);
+            let error = error_reply(self.settings.station, outcome.number);
             expected.reply[..10].copy_from_slice(&error);
             assert_eq!(outcome.reply_length, 10);
         } else {
@@ -50,8 +49,8 @@ impl Call {
     }
 
     fn make(&mut self) -> Outcome {
-        let Call { frame, board, axes, fitted, station, reply } = self;
-        answer(frame, board, axes, *fitted, *station, reply)
+        let Call { frame, board, axes, settings, reply } = self;
+        answer(frame, board, axes, *settings, reply)
     }
 }
 
@@ -92,10 +91,10 @@ fn number_3_columns_areas() {
 
 #[test]
 fn number_4_journals() {
-    for length in [0, 5, 6, 379, 65_537] {
+    for length in [0, 5, 6, 380, 579, 65_537] {
         assert_eq!(after(|call| call.board.journal.resize(length, 0)), 4, "{length}");
     }
-    for used in [1, 5, 7, 12, 380, 381, usize::MAX] {
+    for used in [1, 5, 7, 12, 580, 581, usize::MAX] {
         assert_eq!(after(|call| call.board.used = used), 4, "{used}");
     }
     // Tag, length, start number of the entry 53 00 03 01 2C 00.
@@ -119,7 +118,7 @@ fn number_5_axis_records_and_fitted_axes() {
         assert_eq!(after(|call| call.axes[9 * axis + 1] = 16), 5, "sensor of {axis}");
         assert_eq!(after(|call| call.axes[9 * axis + 2] = 16), 5, "error code of {axis}");
     }
-    assert_eq!(after(|call| call.fitted = 0), 5);
+    assert_eq!(after(|call| call.settings.fitted = 0), 5);
     let mut call = Call::good("208");
     for record in call.axes.chunks_mut(9) {
         record.copy_from_slice(&[255, 15, 0x0F, 0xFF, 255, 255, 255, 255, 255]);
@@ -170,11 +169,11 @@ fn number_8_stations() {
         let bytes = ["!", station].concat();
         assert_eq!(after(|call| call.frame = frame(bytes.as_bytes(), "208")), 8);
     }
-    assert_eq!(after(|call| call.station = 0x9A), 8);
-    assert_eq!(after(|call| call.station = 99), 8);
+    assert_eq!(after(|call| call.settings.station = 0x9A), 8);
+    assert_eq!(after(|call| call.settings.station = 99), 8);
     let with = |station: u8, digits: &[u8]| {
         let mut call = Call::good("208");
-        call.station = station;
+        call.settings.station = station;
         call.frame = frame(&[b"!", digits].concat(), "208");
         call.make().number
     };
@@ -185,13 +184,88 @@ fn number_8_stations() {
 
 #[test]
 fn number_9_step_back_without_entries() {
-    let mut board = Board::fresh(2, 380);
-    assert_eq!(step_back(&mut board), 9);
-    assert_eq!(board, Board::fresh(2, 380));
+    let mut board = Board::fresh(2, 580);
+    assert_eq!(step_back(&mut board, SETTINGS.firsts), 9);
+    assert_eq!(board, Board::fresh(2, 580));
     board.journal.fill(0xEE);
     let before = board.clone();
-    assert_eq!(step_back(&mut board), 9);
+    assert_eq!(step_back(&mut board, SETTINGS.firsts), 9);
     assert_eq!(board, before);
+}
+
+#[test]
+fn number_10_new_areas_and_first_numbers() {
+    for length in [0, 4, 300, 399, 401, 404] {
+        assert_eq!(after(|call| call.board.integers.resize(length, 0)), 10, "{length}");
+    }
+    for length in [0, 38, 299, 301, 400] {
+        assert_eq!(after(|call| call.board.flags.resize(length, 0)), 10, "{length}");
+    }
+    let with = |integer: u16, flag: u16| {
+        let mut call = Call::good("208");
+        call.settings.firsts = Firsts { integer, flag };
+        call
+    };
+    // FFFH and FFFFH are the greatest numbers of three and four digits.
+    for (integer, flag) in [(0xF9D, 600), (0xFFFF, 600), (200, 0xFED5), (200, 0xFFFF)] {
+        let call = with(integer, flag);
+        assert_eq!(call.refused(), 10, "{integer:X} {flag:X}");
+        let mut board = call.board.clone();
+        assert_eq!(step_back(&mut board, call.settings.firsts), 10);
+        assert_eq!(board, call.board);
+    }
+    for (integer, flag) in [(0, 0), (0xF9C, 600), (200, 0xFED4), (0xF9C, 0xFED4)] {
+        assert_eq!(with(integer, flag).make().number, 0, "{integer:X} {flag:X}");
+    }
+}
+
+#[test]
+fn number_4_entries_of_integers_and_flags() {
+    // Entries of integer 200 and of flag 600, each in the journal alone.
+    let integer = [0x49, 0, 6, 0x00, 0xC8, 1, 2, 3, 4];
+    let flag = [0x46, 0, 3, 0x02, 0x58, 0x30];
+    let with = |entry: &[u8], firsts: Firsts| {
+        let mut call = Call::good("208");
+        call.board.journal.fill(0);
+        call.board.journal[..entry.len()].copy_from_slice(entry);
+        call.board.used = entry.len();
+        call.settings.firsts = firsts;
+        call.make().number
+    };
+    let bench = SETTINGS.firsts;
+    assert_eq!(with(&integer, bench), 0);
+    assert_eq!(with(&flag, bench), 0);
+    // Tags of other kinds, parts of an integer, two flags, numbers not held.
+    for (at, byte) in [(0, 0x53), (0, 0x46), (0, 0x4A), (2, 5), (2, 7), (4, 0xC7), (3, 0x01)] {
+        let mut entry = integer;
+        entry[at] = byte;
+        assert_eq!(with(&entry, bench), 4, "{at} {byte:02X}");
+    }
+    for (at, byte) in [(0, 0x49), (0, 0x47), (2, 2), (2, 4), (4, 0x57), (3, 0x04)] {
+        let mut entry = flag;
+        entry[at] = byte;
+        assert_eq!(with(&entry, bench), 4, "{at} {byte:02X}");
+    }
+    assert_eq!(with(&[0x46, 0, 4, 0x02, 0x58, 0, 0], bench), 4);
+    // Other first numbers hold other numbers.
+    for (firsts, of_integer, of_flag) in [
+        (Firsts { integer: 101, flag: 301 }, 0, 0),
+        (Firsts { integer: 100, flag: 300 }, 4, 4),
+        (Firsts { integer: 201, flag: 600 }, 4, 0),
+        (Firsts { integer: 200, flag: 601 }, 0, 4),
+    ] {
+        assert_eq!(with(&integer, firsts), of_integer, "{firsts:?}");
+        assert_eq!(with(&flag, firsts), of_flag, "{firsts:?}");
+    }
+}
+
+/// Tests 1 to 8 and 10, in their order.
+const SILENT: [u16; 9] = [1, 2, 3, 10, 4, 5, 6, 7, 8];
+
+/// Those of some numbers whose bit is set, in their order.
+fn chosen(numbers: &[u16], set: usize) -> Vec<u16> {
+    let bits = numbers.iter().enumerate().filter(|(at, _)| set >> at & 1 == 1);
+    bits.map(|(_, &number)| number).collect()
 }
 
 /// Breaks what test `number` looks at; the frame's parts come in `parts`: header, station, SC.
@@ -200,8 +274,9 @@ fn spoil(call: &mut Call, parts: &mut [&str; 3], number: u16) {
         1 => call.reply.truncate(1_000),
         2 => call.board.points.push(0),
         3 => call.board.columns.clear(),
+        10 => call.settings.firsts.flag = 0xFED5,
         4 => call.board.used = 1,
-        5 => call.fitted = 0,
+        5 => call.settings.fitted = 0,
         6 => parts[0] = "?",
         7 => parts[2] = "  ",
         _ => parts[1] = "9a",
@@ -209,9 +284,9 @@ fn spoil(call: &mut Call, parts: &mut [&str; 3], number: u16) {
 }
 
 #[test]
-fn among_1_to_8_the_earliest_is_given() {
-    for set in 1u16..256 {
-        let broken: Vec<u16> = (1..=8).filter(|number| set >> (number - 1) & 1 == 1).collect();
+fn among_1_to_8_and_10_the_earliest_is_given() {
+    for set in 1..1 << SILENT.len() {
+        let broken = chosen(&SILENT, set);
         // An unknown message besides: silent refusals come before the error replies.
         for message in ["208", "299"] {
             let mut call = Call::good(message);
@@ -226,67 +301,116 @@ fn among_1_to_8_the_earliest_is_given() {
 }
 
 #[test]
-fn step_back_tests_2_3_4_then_9() {
-    for set in 0u16..16 {
-        let broken: Vec<u16> = [2, 3, 4, 9]
-            .into_iter()
-            .enumerate()
-            .filter(|(at, _)| set >> at & 1 == 1)
-            .map(|(_, n)| n)
-            .collect();
+fn step_back_tests_2_3_10_4_then_9() {
+    for set in 0..32 {
+        let broken = chosen(&[2, 3, 10, 4, 9], set);
         let mut board = Call::good("208").board;
         for &number in broken.iter().rev() {
             match number {
                 2 => board.points.clear(),
                 3 => board.columns.push(0),
+                10 => board.integers.push(0),
                 4 => board.journal.resize(board.used, 0),
                 _ => board.used = 0,
             }
         }
         let before = board.clone();
-        assert_eq!(step_back(&mut board), broken.first().copied().unwrap_or(0), "{broken:?}");
+        let number = step_back(&mut board, SETTINGS.firsts);
+        assert_eq!(number, broken.first().copied().unwrap_or(0), "{broken:?}");
         assert_eq!(board == before, !broken.is_empty());
+    }
+}
+
+/// One text where a number is among these, else another.
+fn pick<'a>(broken: &[u16], number: u16, bad: &'a str, good: &'a str) -> &'a str {
+    match broken.contains(&number) {
+        true => bad,
+        false => good,
     }
 }
 
 /// A 24EH command in which these of 101 to 106 hold, as far as none earlier hides them.
 fn column_write(broken: &[u16]) -> String {
-    let pick = |number: u16, bad: &'static str, good: &'static str| {
-        if broken.contains(&number) {
-            bad
-        } else {
-            good
-        }
-    };
-    let data = if broken.contains(&105) { "" } else { "3034" };
+    let pick = |number, bad, good| pick(broken, number, bad, good);
     [
         pick(101, "24F", "24E"),
         pick(104, "01", "00"),
         pick(106, "3E7", "3E6"),
         pick(105, "00", "02"),
-        data,
+        pick(105, "", "3034"),
         pick(103, "0", ""),
         pick(102, "g0", ""),
     ]
     .concat()
 }
 
+/// A 24CH command of integers 298 and 299, likewise.
+fn integer_change(broken: &[u16]) -> String {
+    let pick = |number, bad, good| pick(broken, number, bad, good);
+    [
+        pick(101, "24D", "24C"),
+        pick(104, "80", "00"),
+        pick(106, "12B", "12A"),
+        pick(105, "00", "02"),
+        pick(105, "", "0000002F80000000"),
+        pick(103, "0000000", ""),
+        pick(102, "a", ""),
+    ]
+    .concat()
+}
+
+/// A 20EH command of all integers, likewise.
+fn integer_query(broken: &[u16]) -> String {
+    let pick = |number, bad, good| pick(broken, number, bad, good);
+    [
+        pick(101, "20F", "20E"),
+        pick(104, "FF", "00"),
+        pick(106, "0C7", "0C8"),
+        pick(105, "00", "64"),
+        pick(103, "00", ""),
+        pick(102, "@", ""),
+    ]
+    .concat()
+}
+
+/// A 20DH command of all flags, likewise.
+fn flag_query(broken: &[u16]) -> String {
+    let pick = |number, bad, good| pick(broken, number, bad, good);
+    [
+        pick(101, "20C", "20D"),
+        pick(104, "10", "00"),
+        pick(106, "0259", "0258"),
+        pick(105, "0000", "012C"),
+        pick(103, "0", ""),
+        pick(102, "/", ""),
+    ]
+    .concat()
+}
+
+/// A 24BH command in which these of 101 to 104, 106 and 108 hold, likewise.
+fn flag_change(broken: &[u16]) -> String {
+    let pick = |number, bad, good| pick(broken, number, bad, good);
+    [
+        pick(101, "24A", "24B"),
+        pick(104, "01", "00"),
+        pick(106, "0384", "0383"),
+        pick(108, "2", "1"),
+        pick(103, "1", ""),
+        pick(102, ":", ""),
+    ]
+    .concat()
+}
+
 /// A 244H command in which these of 101, 102, 103, 105, 106 and 107 hold, likewise.
 fn point_write(broken: &[u16]) -> String {
-    let pick = |number: u16, bad: &'static str, good: &'static str| {
-        if broken.contains(&number) {
-            bad
-        } else {
-            good
-        }
-    };
+    let pick = |number, bad, good| pick(broken, number, bad, good);
     let second = pick(107, "10000000000000FFFFFFFF", "08000000000000FFFFFFFF");
     let points = ["01000000000000FFFFFFFF", second].concat();
     [
         pick(101, "245", "244"),
         pick(106, "002", "001"),
         pick(105, "000", "002"),
-        if broken.contains(&105) { "" } else { points.as_str() },
+        pick(105, "", &points),
         pick(103, "0", ""),
         pick(102, "f", ""),
     ]
@@ -294,38 +418,49 @@ fn point_write(broken: &[u16]) -> String {
 }
 
 #[test]
-fn among_101_to_107_the_earliest_is_given() {
-    for (write, numbers) in [
-        (column_write as fn(&[u16]) -> String, [101, 102, 103, 104, 105, 106]),
+fn among_101_to_108_the_earliest_is_given() {
+    const OF_A_RUN: [u16; 6] = [101, 102, 103, 104, 105, 106];
+    for (text, numbers) in [
+        (column_write as fn(&[u16]) -> String, OF_A_RUN),
+        (integer_change, OF_A_RUN),
+        (integer_query, OF_A_RUN),
+        (flag_query, OF_A_RUN),
+        (flag_change, [101, 102, 103, 104, 106, 108]),
         (point_write, [101, 102, 103, 105, 106, 107]),
     ] {
-        let text = write(&[]);
-        assert_eq!(Call::good(&text).make().number, 0, "{text}");
-        for set in 1u16..64 {
-            let broken: Vec<u16> =
-                (0..6).filter(|at| set >> at & 1 == 1).map(|at| numbers[at]).collect();
-            let text = write(&broken);
+        let good = text(&[]);
+        assert_eq!(Call::good(&good).make().number, 0, "{good}");
+        for set in 1..64 {
+            let broken = chosen(&numbers, set);
+            let text = text(&broken);
             assert_eq!(Call::good(&text).refused(), broken[0], "{text}");
         }
     }
 }
 
 #[test]
-fn an_error_reply_depends_on_frame_station_n_and_fitted_only() {
+fn an_error_reply_depends_on_frame_settings_and_n_only() {
     let first = Call::good("2440010011000000000000000000000");
     let mut other = first.clone();
     other.board.points.fill(0x55);
     other.board.columns.fill(0x66);
+    other.board.integers.fill(0x77);
+    other.board.flags.fill(0x88);
     other.board.journal = vec![0; 65_536];
     other.board.used = 0;
     other.axes[0] = 0x77;
     assert_eq!(first.refused(), 107);
     assert_eq!(other.refused(), 107);
+    // Which numbers are held is a setting's: 300 is the last of integers from 201 on.
+    let mut query = Call::good("20E0012C01");
+    assert_eq!(query.refused(), 106);
+    query.settings.firsts.integer = 201;
+    assert_eq!(query.make().number, 0);
 }
 
 #[test]
 fn fixed_error_replies() {
-    // Sums by hand: 26+39+39+31+30 is F9, the last digit's byte makes 12A to 130.
+    // Sums by hand: 26+39+39+31+30 is F9, the last digit's byte makes 12A to 131.
     let cases = [
         ("299", 101, "&991012A\r\n"),
         ("20800x", 102, "&991022B\r\n"),
@@ -334,6 +469,7 @@ fn fixed_error_replies() {
         ("246001000", 105, "&991052E\r\n"),
         ("246003001", 106, "&991062F\r\n"),
         ("24400100100000000000000", 107, "&9910730\r\n"),
+        ("24B0002582", 108, "&9910831\r\n"),
     ];
     for (text, number, reply) in cases {
         let mut call = Call::good(text);

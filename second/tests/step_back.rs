@@ -1,11 +1,10 @@
 //! The journal and the step back, through the calls (document 01, "Journal"; demand 3).
 
 use second::bench::Bench;
-use second::link::step_back;
 
-/// One point: the least journal is 340 bytes.
+/// One point: the least journal is 540 bytes.
 fn small() -> Bench {
-    Bench::fresh(1, 340)
+    Bench::fresh(1, 540)
 }
 
 fn accept(bench: &mut Bench, id_and_content: &str) {
@@ -14,7 +13,7 @@ fn accept(bench: &mut Bench, id_and_content: &str) {
 
 #[test]
 fn points_come_back_write_after_write() {
-    let mut bench = Bench::fresh(3, 420);
+    let mut bench = Bench::fresh(3, 620);
     let fresh = bench.board.clone();
     accept(&mut bench, "24400100201000100010001000000010100010001000100000002");
     let first = bench.board.clone();
@@ -24,10 +23,10 @@ fn points_come_back_write_after_write() {
     assert_eq!(bench.board.used, 85 + 85 + 125);
     assert!(bench.board.points.iter().all(|&byte| byte == 0));
     for expected in [second, first, fresh] {
-        assert_eq!(step_back(&mut bench.board), 0);
+        assert_eq!(bench.step_back(), 0);
         assert_eq!(bench.board, expected);
     }
-    assert_eq!(step_back(&mut bench.board), 9);
+    assert_eq!(bench.step_back(), 9);
 }
 
 #[test]
@@ -37,11 +36,11 @@ fn columns_come_back_with_leading_zeros() {
     let first = bench.board.clone();
     accept(&mut bench, "24E0012C04FFFFFFFF");
     accept(&mut bench, "24E003E701AA");
-    assert_eq!(step_back(&mut bench.board), 0);
-    assert_eq!(step_back(&mut bench.board), 0);
+    assert_eq!(bench.step_back(), 0);
+    assert_eq!(bench.step_back(), 0);
     assert_eq!(bench.board, first);
     assert_eq!(bench.board.columns[..4], [0x30, 0x30, 0x34, 0x37]);
-    assert_eq!(step_back(&mut bench.board), 0);
+    assert_eq!(bench.step_back(), 0);
     assert_eq!(bench.board, small().board);
 }
 
@@ -51,12 +50,87 @@ fn points_and_columns_share_the_order() {
     accept(&mut bench, "24E0012C0141");
     accept(&mut bench, "2440010010100000000000000000007");
     accept(&mut bench, "24E0012C0142");
-    assert_eq!(step_back(&mut bench.board), 0);
+    assert_eq!(bench.step_back(), 0);
     assert_eq!((bench.board.columns[0], bench.board.points[11]), (0x41, 7));
-    assert_eq!(step_back(&mut bench.board), 0);
+    assert_eq!(bench.step_back(), 0);
     assert_eq!((bench.board.columns[0], bench.board.points[11]), (0x41, 0));
-    assert_eq!(step_back(&mut bench.board), 0);
+    assert_eq!(bench.step_back(), 0);
     assert_eq!(bench.board, small().board);
+}
+
+#[test]
+fn integers_come_back_write_after_write() {
+    let mut bench = small();
+    let fresh = bench.board.clone();
+    accept(&mut bench, "24C000C8020000002F80000000");
+    let first = bench.board.clone();
+    accept(&mut bench, "24C000C801FFFFFFFF");
+    let second = bench.board.clone();
+    accept(&mut bench, &["24C000C864", &"01234567".repeat(100)].concat());
+    assert_eq!(bench.board.used, 13 + 9 + 405);
+    assert_eq!(bench.board.journal[22..31], [0x49, 0x01, 0x92, 0, 0xC8, 0xFF, 0xFF, 0xFF, 0xFF]);
+    for expected in [second, first, fresh] {
+        assert_eq!(bench.step_back(), 0);
+        assert_eq!(bench.board, expected);
+    }
+    assert_eq!(bench.step_back(), 9);
+}
+
+#[test]
+fn a_flags_old_byte_comes_back_as_it_was() {
+    let mut bench = small();
+    bench.board.flags[299] = 0x30;
+    let spoiled = bench.board.clone();
+    accept(&mut bench, "24B0003831");
+    assert_eq!(bench.board.journal[..7], [0x46, 0, 3, 0x03, 0x83, 0x30, 0]);
+    accept(&mut bench, "24B0003830");
+    assert_eq!((bench.board.flags[299], bench.board.used), (0x00, 12));
+    assert_eq!(bench.step_back(), 0);
+    assert_eq!(bench.board.flags[299], 0x01);
+    assert_eq!(bench.step_back(), 0);
+    assert_eq!(bench.board, spoiled);
+}
+
+#[test]
+fn all_four_kinds_share_the_order() {
+    let mut bench = small();
+    let mut boards = vec![bench.board.clone()];
+    for write in [
+        "24C000C80100000001",
+        "24B0002581",
+        "24E0012C0141",
+        "2440010010100000000000000000007",
+        "24B0002580",
+        "24C000C802FFFFFFFF00000002",
+        "246001001",
+    ] {
+        accept(&mut bench, write);
+        boards.push(bench.board.clone());
+    }
+    boards.pop();
+    for board in boards.into_iter().rev() {
+        assert_eq!(bench.step_back(), 0);
+        assert_eq!(bench.board, board);
+    }
+    assert_eq!(bench.step_back(), 9);
+}
+
+#[test]
+fn an_entry_names_numbers_not_places() {
+    let mut bench = small();
+    accept(&mut bench, "24C000C90100000005");
+    // 201 was the second integer; from 102 on it is the last.
+    bench.settings.firsts.integer = 102;
+    bench.board.integers.fill(0x77);
+    assert_eq!(bench.step_back(), 0);
+    assert_eq!(bench.board.integers[..396], [0x77; 396]);
+    assert_eq!(bench.board.integers[396..], [0; 4]);
+    let mut bench = small();
+    accept(&mut bench, "24B0002581");
+    bench.settings.firsts.flag = 601;
+    let before = bench.board.clone();
+    assert_eq!((bench.step_back(), bench.ask("208").0), (4, 4));
+    assert_eq!(bench.board, before);
 }
 
 #[test]
@@ -66,8 +140,14 @@ fn a_write_that_changes_no_byte_is_an_entry_too() {
     assert_eq!(bench.board.used, 45);
     accept(&mut bench, "24E0012C0100");
     assert_eq!(bench.board.used, 51);
-    assert_eq!(step_back(&mut bench.board), 0);
-    assert_eq!(bench.board.used, 45);
+    accept(&mut bench, "24C000C80100000000");
+    assert_eq!(bench.board.used, 60);
+    accept(&mut bench, "24B0002580");
+    assert_eq!(bench.board.used, 66);
+    for used in [60, 51, 45] {
+        assert_eq!(bench.step_back(), 0);
+        assert_eq!(bench.board.used, used);
+    }
 }
 
 #[test]
@@ -75,52 +155,54 @@ fn queries_and_refused_writes_are_not_stepped_back() {
     let mut bench = small();
     accept(&mut bench, "24E0012C0141");
     accept(&mut bench, "24E0012C0142");
-    for query in ["200..........", "208", "209001001", "2100012C02", "212FF"] {
+    let queries = ["200..........", "208", "209001001", "2100012C02", "212FF"];
+    for query in queries.into_iter().chain(["20D0002580001", "20E000C801"]) {
         accept(&mut bench, query);
     }
-    for refused in ["24E0012C0043", "24E0112C0143", "246002001", "24400100100000000000000", "299"] {
+    let refused = ["24E0012C0043", "24E0112C0143", "246002001", "24400100100000000000000", "299"];
+    for refused in refused.into_iter().chain(["24B0002582", "24C0012B020000000100000002"]) {
         assert!(bench.ask(refused).0 > 100, "{refused}");
     }
     assert_eq!(bench.hand(b"!9924E0012C014300\r\n").0, 7);
     assert_eq!(bench.board.columns[0], 0x42);
-    assert_eq!(step_back(&mut bench.board), 0);
+    assert_eq!(bench.step_back(), 0);
     assert_eq!(bench.board.columns[0], 0x41);
 }
 
 #[test]
 fn a_full_journal_drops_its_oldest_and_no_more_than_needed() {
-    let mut bench = small();
-    // Entries of 45 bytes: seven make 315, the eighth would make 360.
-    for number in 1..=7 {
-        accept(&mut bench, &format!("24400100101000000000000000000{number}0"));
+    let mut bench = Bench::fresh(1, 565);
+    // Entries of 45 bytes: twelve make 540, the 13th would make 585.
+    for number in 1..=12 {
+        accept(&mut bench, &format!("24400100101000000000000000000{number:X}0"));
         assert_eq!(bench.board.used, 45 * number);
     }
-    accept(&mut bench, "2440010010100000000000000000080");
-    assert_eq!(bench.board.used, 315);
+    accept(&mut bench, "24400100101000000000000000000D0");
+    assert_eq!(bench.board.used, 540);
     // 25 bytes are left: 20 columns take all of them.
     accept(&mut bench, &["24E0012C14", &"41".repeat(20)].concat());
-    assert_eq!(bench.board.used, 340);
+    assert_eq!(bench.board.used, 565);
     // One column's 6 bytes cost one entry of 45.
     accept(&mut bench, "24E0012C0142");
-    assert_eq!(bench.board.used, 301);
-    assert!(bench.board.journal[301..].iter().all(|&byte| byte == 0));
+    assert_eq!(bench.board.used, 526);
+    assert!(bench.board.journal[526..].iter().all(|&byte| byte == 0));
     for columns in [0x41, 0x00] {
-        assert_eq!(step_back(&mut bench.board), 0);
+        assert_eq!(bench.step_back(), 0);
         assert_eq!(bench.board.columns[0], columns);
     }
-    // Points 8 to 3 go back; the writes 1 and 2 can't be taken back any more.
-    for number in [0x70, 0x60, 0x50, 0x40, 0x30, 0x20] {
-        assert_eq!(step_back(&mut bench.board), 0);
+    // Writes 13 to 3 go back; the writes 1 and 2 can't be taken back any more.
+    for number in (2..=12).rev().map(|number| 0x10 * number) {
+        assert_eq!(bench.step_back(), 0);
         assert_eq!(bench.board.points[11], number);
     }
     assert_eq!(bench.board.used, 0);
-    assert_eq!(step_back(&mut bench.board), 9);
+    assert_eq!(bench.step_back(), 9);
     assert_eq!(bench.board.points[11], 0x20);
 }
 
 #[test]
 fn the_longest_entries_fit_the_least_journal() {
-    let mut bench = Bench::fresh(1_500, 60_300);
+    let mut bench = Bench::fresh(1_500, 60_500);
     bench.board.points.fill(0x11);
     for _ in 0..2 {
         accept(&mut bench, "2460015DC");
@@ -130,9 +212,9 @@ fn the_longest_entries_fit_the_least_journal() {
     }
     accept(&mut bench, &["24E0012CFF", &"41".repeat(255)].concat());
     assert_eq!(bench.board.used, 60_265);
-    // 35 bytes are left: an entry of 42 costs the long one.
-    accept(&mut bench, &["24E0012C25", &"41".repeat(37)].concat());
-    assert_eq!(bench.board.used, 260 + 42);
+    // 235 bytes are left: an entry of 236 costs the long one.
+    accept(&mut bench, &["24E0012CE7", &"41".repeat(231)].concat());
+    assert_eq!(bench.board.used, 260 + 236);
 }
 
 #[test]
@@ -149,9 +231,9 @@ fn journals_of_the_greatest_length_are_used_to_the_last_byte() {
     accept(&mut bench, "24E0012C0141");
     assert_eq!(bench.board.used, 65_536 - 260 + 6);
     for _ in 0..297 {
-        assert_eq!(step_back(&mut bench.board), 0);
+        assert_eq!(bench.step_back(), 0);
     }
-    assert_eq!(step_back(&mut bench.board), 9);
+    assert_eq!(bench.step_back(), 9);
 }
 
 #[test]
@@ -163,7 +245,7 @@ fn bytes_beyond_the_used_length_are_00_after_a_write_and_a_step_back() {
     accept(&mut bench, "24E0012C024242");
     assert_eq!(bench.board.used, 13);
     bench.board.journal[13..].fill(0xEE);
-    assert_eq!(step_back(&mut bench.board), 0);
+    assert_eq!(bench.step_back(), 0);
     assert_eq!(bench.board.used, 6);
     assert!(bench.board.journal[6..].iter().all(|&byte| byte == 0));
 }
@@ -174,7 +256,7 @@ fn spoiled_old_bytes_come_back_as_they_were() {
     bench.board.points.fill(0x5A);
     let before = bench.board.clone();
     accept(&mut bench, "2440010010100000000000000000001");
-    assert_eq!(step_back(&mut bench.board), 0);
+    assert_eq!(bench.step_back(), 0);
     assert_eq!(bench.board, before);
 }
 
@@ -187,7 +269,7 @@ fn a_spoiled_journal_refuses_both_calls() {
         let mut spoiled = bench.clone();
         spoiled.board.journal[at] ^= 0x04;
         let before = spoiled.board.clone();
-        assert_eq!(step_back(&mut spoiled.board), 4, "{at}");
+        assert_eq!(spoiled.step_back(), 4, "{at}");
         assert_eq!(spoiled.ask("208").0, 4, "{at}");
         assert_eq!(spoiled.board, before);
     }

@@ -1,6 +1,6 @@
 //! The three calls of `include/cabinet.h`, as the comparison makes them.
 
-use crate::areas::Board;
+use crate::areas::{Board, Firsts, Settings};
 use crate::frames::{self, Found};
 use crate::link::{self, Outcome};
 
@@ -8,6 +8,8 @@ use crate::link::{self, Outcome};
 pub struct Areas<'a> {
     pub points: &'a mut [u8],
     pub columns: &'a mut [u8],
+    pub integers: &'a mut [u8],
+    pub flags: &'a mut [u8],
     pub journal: &'a mut [u8],
     pub used: usize,
 }
@@ -33,13 +35,6 @@ impl From<Found> for Finding {
     }
 }
 
-/// Settings handed to each frame's answer.
-#[derive(Clone, Copy, Debug, PartialEq, Eq)]
-pub struct Settings {
-    pub fitted: u8,
-    pub station: u8,
-}
-
 /// Something that is compared with the second program.
 pub trait Calls {
     fn receive(&self, received: &[u8]) -> Finding;
@@ -53,7 +48,7 @@ pub trait Calls {
         reply: &mut [u8],
     ) -> Outcome;
 
-    fn step_back(&self, areas: &mut Areas) -> u16;
+    fn step_back(&self, areas: &mut Areas, firsts: Firsts) -> u16;
 }
 
 /// The second program itself, to try the comparison on.
@@ -72,12 +67,11 @@ impl Calls for SecondProgram {
         settings: Settings,
         reply: &mut [u8],
     ) -> Outcome {
-        let Settings { fitted, station } = settings;
-        on_board(areas, |board| link::answer(frame, board, axes, fitted, station, reply))
+        on_board(areas, |board| link::answer(frame, board, axes, settings, reply))
     }
 
-    fn step_back(&self, areas: &mut Areas) -> u16 {
-        on_board(areas, link::step_back)
+    fn step_back(&self, areas: &mut Areas, firsts: Firsts) -> u16 {
+        on_board(areas, |board| link::step_back(board, firsts))
     }
 }
 
@@ -86,12 +80,16 @@ fn on_board<T>(areas: &mut Areas, call: impl FnOnce(&mut Board) -> T) -> T {
     let mut board = Board {
         points: areas.points.to_vec(),
         columns: areas.columns.to_vec(),
+        integers: areas.integers.to_vec(),
+        flags: areas.flags.to_vec(),
         journal: areas.journal.to_vec(),
         used: areas.used,
     };
     let answer = call(&mut board);
     areas.points.copy_from_slice(&board.points);
     areas.columns.copy_from_slice(&board.columns);
+    areas.integers.copy_from_slice(&board.integers);
+    areas.flags.copy_from_slice(&board.flags);
     areas.journal.copy_from_slice(&board.journal);
     areas.used = board.used;
     answer

@@ -1,7 +1,7 @@
 //! One call and all that is lent to it, the same call on the second program, and both as text.
 
-use super::calls::{Finding, Settings};
-use crate::areas::Board;
+use super::calls::Finding;
+use crate::areas::{Board, Kinds, Settings, SLOT};
 use crate::frames;
 use crate::link::{self, Outcome};
 use std::fmt::Write;
@@ -13,6 +13,13 @@ pub struct Lent {
     pub axes: Vec<u8>,
     pub settings: Settings,
     pub reply: Vec<u8>,
+}
+
+impl Lent {
+    /// The kinds of the board; with a spoiled points area, of the points it has room for.
+    pub fn kinds(&self) -> Kinds {
+        Kinds::of((self.board.points.len() / SLOT).max(1), self.settings.firsts)
+    }
 }
 
 #[derive(Clone, Debug, PartialEq, Eq)]
@@ -31,16 +38,17 @@ pub enum Answer {
 }
 
 /// How many areas a call has, with the bytes handed over.
-pub const PARTS: usize = 6;
+pub const PARTS: usize = 8;
 
 /// Their names, in the order of `parts`.
 pub const NAMES: [&str; PARTS] =
-    ["handed bytes", "points", "columns", "journal", "axes", "reply area"];
+    ["handed bytes", "points", "columns", "integers", "flags", "journal", "axes", "reply area"];
 
 /// All areas of a call, in the player's order.
 pub fn parts<'a>(call: &'a Call, lent: &'a Lent) -> [&'a [u8]; PARTS] {
     let Lent { board, axes, reply, .. } = lent;
-    [handed(call), &board.points, &board.columns, &board.journal, axes, reply]
+    let Board { points, columns, integers, flags, journal, .. } = board;
+    [handed(call), points, columns, integers, flags, journal, axes, reply]
 }
 
 /// The bytes a call reads and may not write.
@@ -54,28 +62,27 @@ fn handed(call: &Call) -> &[u8] {
 
 /// The same call on the second program.
 pub fn second(call: &Call, lent: &mut Lent) -> Answer {
-    let Lent { board, axes, settings: Settings { fitted, station }, reply } = lent;
+    let Lent { board, axes, settings, reply } = lent;
     match call {
         Call::Answer { frame } => {
-            Answer::Answered(link::answer(frame, board, axes, *fitted, *station, reply))
+            Answer::Answered(link::answer(frame, board, axes, *settings, reply))
         }
-        Call::StepBack => Answer::SteppedBack(link::step_back(board)),
+        Call::StepBack => Answer::SteppedBack(link::step_back(board, settings.firsts)),
         Call::Receive { received } => Answer::Received(frames::find(received).into()),
     }
 }
 
 /// All inputs of a call as text, zero lines left out.
 pub fn dump(call: &Call, lent: &Lent) -> String {
-    let Lent { board, settings, .. } = lent;
+    let Settings { fitted, station, firsts } = lent.settings;
     let name = match call {
         Call::Answer { .. } => "answer",
         Call::StepBack => "step back",
         Call::Receive { .. } => "receive",
     };
-    let mut text = format!(
-        "call: {name}\nfitted {:02X} station {:02X} used {}\n",
-        settings.fitted, settings.station, board.used
-    );
+    let mut text = format!("call: {name}\n");
+    let _ = writeln!(text, "fitted {fitted:02X} station {station:02X} used {}", lent.board.used);
+    let _ = writeln!(text, "first integer {:04X} first flag {:04X}", firsts.integer, firsts.flag);
     for (name, bytes) in NAMES.into_iter().zip(parts(call, lent)) {
         dump_bytes(&mut text, name, bytes);
     }
@@ -95,20 +102,21 @@ fn dump_bytes(text: &mut String, name: &str, bytes: &[u8]) {
 #[cfg(test)]
 mod tests {
     use super::*;
+    use crate::bench::SETTINGS;
 
     #[test]
     fn a_dump_has_all_inputs() {
         let lent = Lent {
-            board: Board::fresh(1, 340),
+            board: Board::fresh(1, 540),
             axes: vec![7; 72],
-            settings: Settings { fitted: 0x0F, station: 0x99 },
+            settings: SETTINGS,
             reply: vec![0xEE; 33],
         };
         let text = dump(&Call::Answer { frame: b"!99".to_vec() }, &lent);
-        assert!(
-            text.starts_with("call: answer\nfitted 0F station 99 used 0\nhanded bytes: 3 bytes\n")
-        );
+        let settings = "fitted FF station 99 used 0\nfirst integer 00C8 first flag 0258";
+        assert!(text.starts_with(&format!("call: answer\n{settings}\nhanded bytes: 3 bytes\n")));
         assert!(text.contains("      0 213939\npoints: 40 bytes\ncolumns: 700 bytes\n"));
+        assert!(text.contains("integers: 400 bytes\nflags: 300 bytes\njournal: 540 bytes\n"));
         assert!(text.ends_with("     32 EE\n"));
     }
 }

@@ -1,10 +1,13 @@
 //! Drawn boards: from 1 to 1,500 points, journals from the least length on, fresh or in use.
 
-use super::calls::Settings;
 use super::compare::Lent;
 use super::dice::Dice;
-use crate::areas::{Board, AXES, COLUMNS, FIRST_COLUMN, LAST_COLUMN, MOST_POINTS, RECORD, SLOT};
+use crate::areas::{
+    Board, Firsts, Kinds, Settings, AXES, FLAGS, INTEGERS, LAST_FLAG_NUMBER, LAST_INTEGER_NUMBER,
+    MOST_POINTS, RECORD, SLOT,
+};
 use crate::frames::LONGEST_REPLY;
+use crate::journal::least_length;
 
 /// Numbers of points: small boards, those near the limits of a list, large ones.
 const SMALL: [usize; 14] = [1, 1, 2, 2, 3, 3, 4, 5, 6, 8, 10, 12, 13, 20];
@@ -13,10 +16,9 @@ const LARGE: [usize; 8] = [150, 255, 256, 500, 999, 1_000, 1_499, 1_500];
 
 const LONGEST_JOURNAL: usize = 65_536;
 
-/// The least journal of a board with this many points.
-pub fn least_journal(points: usize) -> usize {
-    SLOT * points + 300
-}
+/// The greatest first numbers from which all integers and all flags have a number.
+const LAST_FIRST_INTEGER: usize = LAST_INTEGER_NUMBER + 1 - INTEGERS;
+const LAST_FIRST_FLAG: usize = LAST_FLAG_NUMBER + 1 - FLAGS;
 
 /// A sound board with its settings, records and reply area.
 pub fn lent(dice: &mut Dice) -> Lent {
@@ -26,15 +28,19 @@ pub fn lent(dice: &mut Dice) -> Lent {
         2..=4 => dice.pick(&MIDDLE),
         _ => dice.pick(&SMALL),
     };
-    let mut board = Board::fresh(points, journal_length(dice, points));
+    let board = Board::fresh(points, journal_length(dice, points));
+    let mut lent = Lent { board, axes: axes(dice), settings: settings(dice), reply: reply(dice) };
     if dice.one_in(3) {
-        use_points(dice, &mut board.points);
-        board.columns = dice.bytes(COLUMNS);
+        use_points(dice, &mut lent.board.points);
+        dice.fill(&mut lent.board.columns);
+        dice.fill(&mut lent.board.integers);
+        use_flags(dice, &mut lent.board.flags);
     }
     if dice.one_in(4) {
-        use_journal(dice, &mut board, points);
+        let kinds = lent.kinds();
+        use_journal(dice, &mut lent.board, &kinds);
     }
-    Lent { board, axes: axes(dice), settings: settings(dice), reply: reply(dice) }
+    lent
 }
 
 /// How many calls a board gets: fewer where each compares many bytes.
@@ -46,7 +52,7 @@ pub fn calls(dice: &mut Dice, lent: &Lent) -> usize {
 }
 
 fn journal_length(dice: &mut Dice, points: usize) -> usize {
-    let least = least_journal(points);
+    let least = least_length(points);
     match dice.roll(24) {
         0..=9 => least,
         10..=15 => (least + dice.roll(60)).min(LONGEST_JOURNAL),
@@ -75,27 +81,35 @@ pub fn use_points(dice: &mut Dice, points: &mut [u8]) {
     }
 }
 
+/// Flags on and off, and bytes that only something else can have written.
+pub fn use_flags(dice: &mut Dice, flags: &mut [u8]) {
+    for flag in flags {
+        *flag = match dice.roll(8) {
+            0..=2 => 0x00,
+            3..=5 => 0x01,
+            6 => dice.pick(&[0x30, 0x31, 0x80, 0xFF]),
+            _ => dice.byte(),
+        };
+    }
+}
+
 /// Well-formed entries of drawn bytes, and anything beyond the used length.
-fn use_journal(dice: &mut Dice, board: &mut Board, points: usize) {
+fn use_journal(dice: &mut Dice, board: &mut Board, kinds: &Kinds) {
     if dice.one_in(2) {
         dice.fill(&mut board.journal);
     }
     let most = dice.between(0, board.journal.len());
-    while let Some(entry) = entry(dice, points, most - board.used) {
+    while let Some(entry) = entry(dice, kinds, most - board.used) {
         board.journal[board.used..board.used + entry.len()].copy_from_slice(&entry);
         board.used += entry.len();
     }
 }
 
 /// An entry of at most `room` bytes; None ends the journal.
-fn entry(dice: &mut Dice, points: usize, room: usize) -> Option<Vec<u8>> {
-    let of_points = dice.one_in(2);
-    let (tag, first, last, unit, most) = match of_points {
-        true => (0x50, 1, points, SLOT, points),
-        false => (0x53, FIRST_COLUMN, LAST_COLUMN, 1, 255),
-    };
-    let start = dice.between(first, last);
-    let most = most.min(last - start + 1).min(room.checked_sub(5)? / unit);
+fn entry(dice: &mut Dice, kinds: &Kinds, room: usize) -> Option<Vec<u8>> {
+    let kind = dice.pick(&kinds.all());
+    let start = dice.between(kind.first, kind.last());
+    let most = kind.most.min(kind.last() - start + 1).min(room.checked_sub(5)? / kind.unit);
     if most == 0 {
         return None;
     }
@@ -103,8 +117,8 @@ fn entry(dice: &mut Dice, points: usize, room: usize) -> Option<Vec<u8>> {
         0 => most,
         _ => dice.between(1, most.min(40)),
     };
-    let old = dice.bytes(count * unit);
-    let mut entry = vec![tag];
+    let old = dice.bytes(count * kind.unit);
+    let mut entry = vec![kind.tag];
     entry.extend(((2 + old.len()) as u16).to_be_bytes());
     entry.extend((start as u16).to_be_bytes());
     entry.extend(old);
@@ -135,7 +149,34 @@ pub fn settings(dice: &mut Dice) -> Settings {
         0 => 0x99,
         _ => dice.byte(),
     };
-    Settings { fitted, station }
+    Settings { fitted, station, firsts: firsts(dice) }
+}
+
+/// First numbers as on the bench, from the least to the greatest that don't run past.
+pub fn firsts(dice: &mut Dice) -> Firsts {
+    let mut draw = |bench: usize, greatest: usize| match dice.roll(5) {
+        0 => bench,
+        1 => greatest - dice.pick(&[0, 0, 1]),
+        2 => dice.pick(&[0, 0, 1]),
+        _ => dice.between(0, greatest),
+    } as u16;
+    Firsts { integer: draw(200, LAST_FIRST_INTEGER), flag: draw(600, LAST_FIRST_FLAG) }
+}
+
+/// First numbers of which one runs past its field, or both do.
+pub fn firsts_that_run_past(dice: &mut Dice) -> Firsts {
+    let mut past = |greatest: usize| match dice.roll(3) {
+        0 => greatest + 1,
+        1 => dice.pick(&[greatest + 2, 0xFFF, 0x1000, 0xFFFE, 0xFFFF]).max(greatest + 1),
+        _ => dice.between(greatest + 1, 0xFFFF),
+    } as u16;
+    let (integer, flag) = (past(LAST_FIRST_INTEGER), past(LAST_FIRST_FLAG));
+    let sound = firsts(dice);
+    match dice.roll(5) {
+        0 | 1 => Firsts { integer, ..sound },
+        2 | 3 => Firsts { flag, ..sound },
+        _ => Firsts { integer, flag },
+    }
 }
 
 pub fn reply(dice: &mut Dice) -> Vec<u8> {

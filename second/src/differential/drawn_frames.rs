@@ -2,13 +2,12 @@
 
 use super::compare::Lent;
 use super::dice::Dice;
-use crate::areas::{AXES, FIRST_COLUMN, LAST_COLUMN, SLOT};
+use crate::areas::{Kind, AXES};
 use crate::digits;
 use crate::frames::{self, LONGEST_FRAME, SHORTEST_FRAME};
 
 const MARKS: &[u8] = b"@@";
 const ENTRY_HEAD: usize = 5;
-const MOST_COLUMNS: usize = 255;
 
 /// The fields of a command, as far as its message has them.
 #[derive(Clone)]
@@ -19,17 +18,34 @@ struct Asking {
     rest: Vec<u8>,
 }
 
-/// Start and count of a run, and how many digits the count has: 3 for points, 2 for columns.
+/// Start and count of a run, and how many digits each has; a count of no digits is one.
 #[derive(Clone, Copy)]
 struct Named {
+    kind: Kind,
     start: usize,
     count: usize,
-    width: usize,
+    widths: [usize; 2],
 }
+
+/// Digits of start and count: of points; of columns and integers; of flags asked for; of one changed.
+const OF_POINTS: [usize; 2] = [3, 3];
+const OF_BYTES: [usize; 2] = [3, 2];
+const OF_FLAGS: [usize; 2] = [4, 4];
+const OF_ONE_FLAG: [usize; 2] = [4, 0];
 
 impl Asking {
     fn plain(id: &[u8; 3], rest: Vec<u8>) -> Asking {
         Asking { id: *id, program: None, run: None, rest }
+    }
+
+    /// A run of points, which have no program number.
+    fn points(id: &[u8; 3], run: Named, rest: Vec<u8>) -> Asking {
+        Asking { run: Some(run), ..Asking::plain(id, rest) }
+    }
+
+    /// A run of another kind, of program 00.
+    fn global(id: &[u8; 3], run: Named, rest: Vec<u8>) -> Asking {
+        Asking { program: Some(0), ..Asking::points(id, run, rest) }
     }
 
     /// Message ID and content.
@@ -38,9 +54,9 @@ impl Asking {
         if let Some(program) = self.program {
             digits::push(&mut text, u32::from(program), 2);
         }
-        if let Some(Named { start, count, width }) = self.run {
-            digits::push(&mut text, start as u32, 3);
-            digits::push(&mut text, count as u32, width);
+        if let Some(Named { start, count, widths, .. }) = self.run {
+            digits::push(&mut text, start as u32, widths[0]);
+            digits::push(&mut text, count as u32, widths[1]);
         }
         text.extend(&self.rest);
         text
@@ -104,15 +120,20 @@ fn mend_sc(frame: &mut [u8]) {
 // ---- good commands ----
 
 fn asking(dice: &mut Dice, lent: &Lent) -> Asking {
-    match dice.roll(50) {
+    let kinds = lent.kinds();
+    match dice.roll(74) {
         0..=2 => Asking::plain(b"200", test_text(dice)),
         3..=6 => Asking::plain(b"208", Vec::new()),
-        7..=14 => Asking { run: Some(points_named(dice, lent)), ..Asking::plain(b"209", vec![]) },
-        15..=19 => columns_asked(dice, lent, b"210"),
+        7..=14 => Asking::points(b"209", points_named(dice, lent), Vec::new()),
+        15..=19 => Asking::global(b"210", bytes_named(dice, lent, kinds.columns), Vec::new()),
         20..=24 => Asking::plain(b"212", dice.digits(2)),
         25..=36 => point_write(dice, lent),
-        37..=41 => Asking { run: Some(points_named(dice, lent)), ..Asking::plain(b"246", vec![]) },
-        _ => column_write(dice, lent),
+        37..=41 => Asking::points(b"246", points_named(dice, lent), Vec::new()),
+        42..=49 => change(dice, lent, b"24E", kinds.columns),
+        50..=54 => Asking::global(b"20D", flags_named(dice, kinds.flags), Vec::new()),
+        55..=59 => Asking::global(b"20E", bytes_named(dice, lent, kinds.integers), Vec::new()),
+        60..=66 => flag_change(dice, kinds.flags),
+        _ => change(dice, lent, b"24C", kinds.integers),
     }
 }
 
@@ -125,58 +146,74 @@ fn test_text(dice: &mut Dice) -> Vec<u8> {
     }
 }
 
-fn held(lent: &Lent) -> usize {
-    (lent.board.points.len() / SLOT).max(1)
-}
-
 /// A held run of points: few, many, to the last, all.
 fn points_named(dice: &mut Dice, lent: &Lent) -> Named {
-    let held = held(lent);
-    let start = match dice.roll(4) {
-        0 => 1,
-        1 => held,
-        _ => dice.between(1, held),
-    };
-    let left = held - start + 1;
+    let kind = lent.kinds().points;
+    let start = start(dice, kind);
+    let left = kind.last() - start + 1;
     let count = match dice.roll(4) {
         0 => left,
         1 => dice.between(1, left),
         _ => dice.between(1, left.min(3)),
     };
-    Named { start, count, width: 3 }
+    Named { kind, start, count, widths: OF_POINTS }
 }
 
-/// A held run of columns, now and then one whose entry just fits the journal's rest or just doesn't.
-fn columns_asked(dice: &mut Dice, lent: &Lent, id: &[u8; 3]) -> Asking {
-    let start = match dice.roll(4) {
-        0 => FIRST_COLUMN,
-        1 => LAST_COLUMN - dice.roll(3),
-        _ => dice.between(FIRST_COLUMN, LAST_COLUMN),
-    };
-    let most = MOST_COLUMNS.min(LAST_COLUMN - start + 1);
+/// A held number: the first, the last ones, any.
+fn start(dice: &mut Dice, kind: Kind) -> usize {
+    match dice.roll(4) {
+        0 => kind.first,
+        1 => kind.last() - dice.pick(&[0, 0, 1, 2]).min(kind.held - 1),
+        _ => dice.between(kind.first, kind.last()),
+    }
+}
+
+/// A held run of columns or integers, now and then one whose entry just fits the journal's rest or
+/// just doesn't.
+fn bytes_named(dice: &mut Dice, lent: &Lent, kind: Kind) -> Named {
+    let start = start(dice, kind);
+    let most = kind.most.min(kind.last() - start + 1);
     let room = lent.board.journal.len().saturating_sub(lent.board.used);
+    let fitting = room.saturating_sub(ENTRY_HEAD) / kind.unit;
     let count = match dice.roll(6) {
         0 => most,
         1 => dice.between(1, most),
-        2 | 3 => (room.saturating_sub(ENTRY_HEAD) + dice.roll(3)).saturating_sub(1),
+        2 | 3 => (fitting + dice.roll(3)).saturating_sub(1),
         _ => dice.between(1, most.min(12)),
     };
-    let run = Named { start, count: count.clamp(1, most), width: 2 };
-    Asking { program: Some(0), run: Some(run), ..Asking::plain(id, Vec::new()) }
+    Named { kind, start, count: count.clamp(1, most), widths: OF_BYTES }
 }
 
-fn column_write(dice: &mut Dice, lent: &Lent) -> Asking {
-    let mut asking = columns_asked(dice, lent, b"24E");
-    let count = asking.run.map_or(0, |run| run.count);
-    asking.rest = dice.digits(2 * count);
-    asking
+/// A held run of flags from any start: few, near a multiple of eight, to the last.
+fn flags_named(dice: &mut Dice, kind: Kind) -> Named {
+    let start = start(dice, kind);
+    let left = kind.last() - start + 1;
+    let count = match dice.roll(4) {
+        0 => left,
+        1 => dice.between(1, left),
+        2 => 8 * dice.between(1, 5) + dice.roll(3) - 1,
+        _ => dice.between(1, 17),
+    };
+    Named { kind, start, count: count.min(left), widths: OF_FLAGS }
+}
+
+/// A 24BH of one held flag, on or off.
+fn flag_change(dice: &mut Dice, kind: Kind) -> Asking {
+    let run = Named { kind, start: start(dice, kind), count: 1, widths: OF_ONE_FLAG };
+    Asking::global(b"24B", run, vec![dice.pick(b"01")])
+}
+
+/// A 24CH or 24EH: two digits for each byte of the run.
+fn change(dice: &mut Dice, lent: &Lent, id: &[u8; 3], kind: Kind) -> Asking {
+    let run = bytes_named(dice, lent, kind);
+    Asking::global(id, run, dice.digits(2 * kind.unit * run.count))
 }
 
 /// A 244H of one point, a few, or as many as fit into the frame.
 fn point_write(dice: &mut Dice, lent: &Lent) -> Asking {
-    let Named { start, count, .. } = points_named(dice, lent);
-    let left = held(lent) - start + 1;
-    let most = if dice.one_in(4) { left } else { count };
+    let named = points_named(dice, lent);
+    let left = named.kind.last() - named.start + 1;
+    let most = if dice.one_in(4) { left } else { named.count };
     let kind = dice.roll(4);
     let mut rest = Vec::new();
     let mut points = 0;
@@ -188,8 +225,7 @@ fn point_write(dice: &mut Dice, lent: &Lent) -> Asking {
         rest.extend(point);
         points += 1;
     }
-    let run = Named { start, count: points, width: 3 };
-    Asking { run: Some(run), ..Asking::plain(b"244", rest) }
+    Asking::points(b"244", Named { count: points, ..named }, rest)
 }
 
 /// One point whose pattern has one axis, all, or some of the fitted ones.
@@ -217,24 +253,25 @@ fn point_of(dice: &mut Dice, pattern: u8) -> Vec<u8> {
 
 // ---- faults ----
 
-/// One fault of 101 to 107 in a command that may have it, else another.
+/// One fault of 101 to 108 in a command that may have it, else another.
 fn fault(dice: &mut Dice, lent: &Lent, asking: &mut Asking) {
-    match dice.roll(7) {
+    match dice.roll(8) {
         0 => asking.id = unknown_id(dice),
         1 => not_a_digit(dice, &mut asking.rest),
         2 => wrong_length(dice, asking),
         3 => asking.program = asking.program.map(|_| dice.pick(&[1, 2, 0x10, 0x80, 0xFF])),
         4 => count_zero(dice, asking),
-        5 => not_held(dice, lent, asking),
-        _ => *asking = faulty_patterns(dice, lent),
+        5 => not_held(dice, asking),
+        6 => *asking = faulty_patterns(dice, lent),
+        _ => *asking = unlisted_change(dice, lent),
     }
 }
 
 /// IDs of the source, lower case, near ones, any bytes.
 fn unknown_id(dice: &mut Dice) -> [u8; 3] {
     match dice.roll(4) {
-        0 => *dice.pick(&[b"201", b"245", b"20B", b"299", b"20D", b"24D", b"000", b"FFF"]),
-        1 => *dice.pick(&[b"24e", b"20a", b"2 0", b"\r\n2", b"@@@", b"2A0", b"!20", b"200"]),
+        0 => *dice.pick(&[b"201", b"245", b"20C", b"299", b"20F", b"24D", b"000", b"FFF"]),
+        1 => *dice.pick(&[b"24e", b"20d", b"2 0", b"\r\n2", b"@@@", b"2A0", b"!20", b"200"]),
         2 => [b'2', dice.pick(b"0123456789ABCDEF"), dice.pick(b"0123456789ABCDEF")],
         _ => [dice.byte(), dice.byte(), dice.byte()],
     }
@@ -270,7 +307,7 @@ fn wrong_length(dice: &mut Dice, asking: &mut Asking) {
 }
 
 fn change_count(dice: &mut Dice, asking: &mut Asking) {
-    let by = dice.pick(&[1, 1, 2, 255, 4_095]);
+    let by = dice.pick(&[1, 1, 2, 255, 4_095, 65_535]);
     if let Some(run) = &mut asking.run {
         run.count = run.count.wrapping_add(by);
     }
@@ -287,16 +324,13 @@ fn count_zero(dice: &mut Dice, asking: &mut Asking) {
 }
 
 /// A start below the first number, past the last, or a run that leaves them.
-fn not_held(dice: &mut Dice, lent: &Lent, asking: &mut Asking) {
+fn not_held(dice: &mut Dice, asking: &mut Asking) {
     if let Some(run) = &mut asking.run {
-        let (first, last) = match run.width {
-            3 => (1, held(lent)),
-            _ => (FIRST_COLUMN, LAST_COLUMN),
-        };
+        let last = run.kind.last();
         run.start = match dice.roll(5) {
-            0 => first - 1,
+            0 => run.kind.first.wrapping_sub(1),
             1 => last + 1,
-            2 => dice.roll(4_096),
+            2 => dice.roll(16usize.pow(run.widths[0] as u32)),
             3 => (last + 1).saturating_sub(run.count.saturating_sub(1)),
             _ => (last + 2).saturating_sub(run.count),
         };
@@ -305,8 +339,8 @@ fn not_held(dice: &mut Dice, lent: &Lent, asking: &mut Asking) {
 
 /// A 244H with a pattern 00 or one with an unfitted axis among good ones.
 fn faulty_patterns(dice: &mut Dice, lent: &Lent) -> Asking {
-    let held = held(lent);
-    let count = dice.between(1, held.min(9));
+    let points = lent.kinds().points;
+    let count = dice.between(1, points.held.min(9));
     let faulty = dice.roll(count);
     let kind = dice.roll(3);
     let fitted = lent.settings.fitted;
@@ -319,8 +353,13 @@ fn faulty_patterns(dice: &mut Dice, lent: &Lent) -> Asking {
             rest.extend(point(dice, kind, fitted.max(1)));
         }
     }
-    let run = Named { start: dice.between(1, held - count + 1), count, width: 3 };
-    Asking { run: Some(run), ..Asking::plain(b"244", rest) }
+    let start = dice.between(1, points.held - count + 1);
+    Asking::points(b"244", Named { kind: points, start, count, widths: OF_POINTS }, rest)
+}
+
+/// A 24BH with a change type that the section doesn't list.
+fn unlisted_change(dice: &mut Dice, lent: &Lent) -> Asking {
+    Asking { rest: vec![dice.pick(b"23456789ABCDEF")], ..flag_change(dice, lent.kinds().flags) }
 }
 
 /// Now and then digits until the frame has 1,022 to 1,024 bytes.
@@ -342,8 +381,8 @@ fn overlong(dice: &mut Dice, lent: &Lent) -> Vec<u8> {
         rest.extend(point_of(dice, pattern));
         count += 1;
     }
-    let run = Named { start: 1, count, width: 3 };
-    let asking = Asking { run: Some(run), ..Asking::plain(b"244", rest) };
+    let run = Named { kind: lent.kinds().points, start: 1, count, widths: OF_POINTS };
+    let asking = Asking::points(b"244", run, rest);
     closed(dice, lent.settings.station, &asking.text())
 }
 

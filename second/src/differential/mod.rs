@@ -8,6 +8,7 @@ pub mod drawn_boards;
 pub mod drawn_frames;
 pub mod drawn_line;
 pub mod left;
+pub mod places;
 pub mod player;
 pub mod product;
 pub mod run;

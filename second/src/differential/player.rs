@@ -4,6 +4,7 @@
 use super::compare::{parts, Call, PARTS};
 use super::left::{changed, Left};
 use super::product::{Difference, Made, Product};
+use crate::areas::Settings;
 use std::io::{self, BufReader, BufWriter, Read, Write};
 use std::process::{Child, ChildStdin, Command, Stdio};
 use std::sync::mpsc::{channel, Receiver, Sender};
@@ -108,9 +109,15 @@ impl Line {
             Call::StepBack => b'S',
             Call::Receive { .. } => b'R',
         };
-        let settings = made.before.settings;
-        let (fitted, station) = (u64::from(settings.fitted), u64::from(settings.station));
-        self.operation(kind, &[(made.before.board.used as u64, 8), (fitted, 1), (station, 1)])?;
+        let Settings { fitted, station, firsts } = made.before.settings;
+        let numbers = [
+            (made.before.board.used as u64, 8),
+            (u64::from(fitted), 1),
+            (u64::from(station), 1),
+            (u64::from(firsts.integer), 2),
+            (u64::from(firsts.flag), 2),
+        ];
+        self.operation(kind, &numbers)?;
         if made.number.is_multiple_of(self.batch) {
             self.operation(b'Q', &[])?;
             self.operations.flush()?;

@@ -63,6 +63,8 @@ fn make_on(calls: &dyn Calls, call: &Call, lent: &mut Lent) -> Answer {
     let mut areas = Areas {
         points: &mut board.points,
         columns: &mut board.columns,
+        integers: &mut board.integers,
+        flags: &mut board.flags,
         journal: &mut board.journal,
         used: board.used,
     };
@@ -70,7 +72,7 @@ fn make_on(calls: &dyn Calls, call: &Call, lent: &mut Lent) -> Answer {
         Call::Answer { frame } => {
             Answer::Answered(calls.answer(frame, &mut areas, axes, *settings, reply))
         }
-        Call::StepBack => Answer::SteppedBack(calls.step_back(&mut areas)),
+        Call::StepBack => Answer::SteppedBack(calls.step_back(&mut areas, settings.firsts)),
         Call::Receive { received } => Answer::Received(calls.receive(received)),
     };
     board.used = areas.used;

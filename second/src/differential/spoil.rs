@@ -1,10 +1,11 @@
-//! Spoiled calls: wrong lengths, spoiled bytes, a spoiled used length, bad records, no fitted axis.
+//! Spoiled calls: wrong lengths, spoiled bytes, a spoiled used length, bad records, no fitted axis,
+//! first numbers that run past.
 
 use super::compare::Lent;
 use super::dice::Dice;
-use super::drawn_boards::{self, least_journal};
-use crate::areas::{AXES, RECORD, SLOT};
-use crate::journal;
+use super::drawn_boards;
+use crate::areas::{Settings, AXES, RECORD, SLOT};
+use crate::journal::{self, least_length};
 
 /// Spoils one thing, or a few, so that the order of the tests shows.
 pub fn spoil(dice: &mut Dice, lent: &mut Lent) {
@@ -14,7 +15,7 @@ pub fn spoil(dice: &mut Dice, lent: &mut Lent) {
 }
 
 fn spoil_one(dice: &mut Dice, lent: &mut Lent) {
-    match dice.roll(18) {
+    match dice.roll(24) {
         0 | 1 => reply_length(dice, lent),
         2 | 3 => points_length(dice, lent),
         4 => columns_length(dice, lent),
@@ -23,7 +24,11 @@ fn spoil_one(dice: &mut Dice, lent: &mut Lent) {
         9..=11 => entry_bytes(dice, lent),
         12 => axes_length(dice, lent),
         13 | 14 => record_bytes(dice, lent),
-        15 | 16 => odd_entry(dice, lent),
+        15..=18 => odd_entry(dice, lent),
+        19 => integers_length(dice, lent),
+        20 => flags_length(dice, lent),
+        21 => lent.settings.firsts = drawn_boards::firsts_that_run_past(dice),
+        22 => lent.settings.firsts = drawn_boards::firsts(dice),
         _ => lent.settings.fitted = 0,
     }
 }
@@ -31,15 +36,27 @@ fn spoil_one(dice: &mut Dice, lent: &mut Lent) {
 /// Changes that leave the board sound: settings, records, old bytes, bytes beyond the used length.
 pub fn change(dice: &mut Dice, lent: &mut Lent) {
     let used = lent.board.used.min(lent.board.journal.len());
-    match dice.roll(8) {
-        0 => lent.settings = drawn_boards::settings(dice),
+    match dice.roll(11) {
+        0 => lent.settings = other_settings(dice, lent),
         1 => lent.axes = drawn_boards::axes(dice),
         2 => lent.reply = drawn_boards::reply(dice),
         3 => dice.spoil_byte(&mut lent.board.points),
         4 => dice.spoil_byte(&mut lent.board.columns),
         5 => dice.spoil_byte(&mut lent.board.journal[used..]),
         6 => drawn_boards::use_points(dice, &mut lent.board.points),
+        7 => dice.spoil_byte(&mut lent.board.integers),
+        8 => dice.spoil_byte(&mut lent.board.flags),
+        9 => drawn_boards::use_flags(dice, &mut lent.board.flags),
         _ => dice.spoil_byte(&mut lent.reply),
+    }
+}
+
+/// First numbers stay while entries may name the numbers that they give.
+fn other_settings(dice: &mut Dice, lent: &Lent) -> Settings {
+    let drawn = drawn_boards::settings(dice);
+    match lent.board.used {
+        0 => drawn,
+        _ => Settings { firsts: lent.settings.firsts, ..drawn },
     }
 }
 
@@ -70,12 +87,22 @@ fn columns_length(dice: &mut Dice, lent: &mut Lent) {
     lent.board.columns.resize(length, 0x41);
 }
 
+fn integers_length(dice: &mut Dice, lent: &mut Lent) {
+    let length = dice.pick(&[0, 1, 4, 100, 300, 396, 399, 401, 404, 420, 800]);
+    lent.board.integers.resize(length, 0x49);
+}
+
+fn flags_length(dice: &mut Dice, lent: &mut Lent) {
+    let length = dice.pick(&[0, 1, 38, 100, 299, 301, 320, 400, 600]);
+    lent.board.flags.resize(length, 0x01);
+}
+
 /// Too short, too long, not as long as what is used, or right in another way.
 fn journal_length(dice: &mut Dice, lent: &mut Lent) {
-    let least = least_journal(lent.board.points.len() / SLOT);
+    let least = least_length(lent.board.points.len() / SLOT);
     let used = lent.board.used.min(100_000);
     let length = match dice.roll(8) {
-        0 => dice.pick(&[0, 1, 5, 299, 300, 339]),
+        0 => dice.pick(&[0, 1, 5, 299, 300, 499, 500, least - 200]),
         1 => least - 1,
         2 => least,
         3 => least + dice.roll(100),
@@ -84,7 +111,7 @@ fn journal_length(dice: &mut Dice, lent: &mut Lent) {
         6 => dice.pick(&[65_535, 65_536, 65_537, 65_600]),
         _ => dice.roll(least),
     };
-    let byte = dice.pick(&[0, 0x50, 0x53]);
+    let byte = dice.pick(&[0, 0x50, 0x53, 0x49, 0x46]);
     lent.board.journal.resize(length, byte);
 }
 
@@ -107,9 +134,8 @@ fn used_length(dice: &mut Dice, lent: &mut Lent) {
 /// Where entries begin in a sound journal.
 fn entry_starts(lent: &Lent) -> Vec<usize> {
     let board = &lent.board;
-    let held = board.points.len() / SLOT;
     let used = board.journal.get(..board.used).unwrap_or(&[]);
-    let entries = journal::entries(used, held).unwrap_or_default();
+    let entries = journal::entries(used, &lent.kinds()).unwrap_or_default();
     entries.iter().map(|entry| entry.at).collect()
 }
 
@@ -124,7 +150,7 @@ fn entry_bytes(dice: &mut Dice, lent: &mut Lent) {
     let at = dice.pick(&starts) + dice.roll(5);
     let byte = &mut lent.board.journal[at];
     *byte = match dice.roll(5) {
-        0 => dice.pick(&[0x50, 0x53]),
+        0 => dice.pick(&[0x50, 0x53, 0x49, 0x46]),
         1 => byte.wrapping_add(1),
         2 => byte.wrapping_sub(1),
         3 => byte.wrapping_add(dice.pick(&[40, 216, 128])),
@@ -132,25 +158,25 @@ fn entry_bytes(dice: &mut Dice, lent: &mut Lent) {
     };
 }
 
-/// Adds an entry whose length is as it says, with p or c, start or tag at a limit or past it.
+/// Adds an entry whose length is as it says, with count, start or tag at a limit or past it.
 fn odd_entry(dice: &mut Dice, lent: &mut Lent) {
-    let board = &mut lent.board;
-    let held = board.points.len() / SLOT;
-    let (tag, old, last) = match dice.roll(3) {
-        0 => (0x50, SLOT * dice.pick(&[0, 1, 2, held, held + 1]), held),
-        1 => (0x50, dice.pick(&[0, 1, 39, 41, 79, 80]), held),
-        _ => (dice.pick(&[0x53, 0x53, 0x54]), dice.pick(&[0, 1, 2, 254, 255, 256, 257]), 999),
+    let kind = dice.pick(&lent.kinds().all());
+    let count = dice.pick(&[0, 1, 2, kind.most, kind.most, kind.most + 1, kind.most + 2]);
+    let part = if dice.one_in(3) { dice.roll(kind.unit) } else { 0 };
+    let start = match dice.roll(6) {
+        0 => kind.first,
+        1 => kind.first.wrapping_sub(1),
+        2 => kind.last() + 1,
+        3 => (kind.last() + 1).saturating_sub(count),
+        4 => (kind.last() + 2).saturating_sub(count),
+        _ => kind.last(),
     };
-    let start = match dice.roll(4) {
-        0 => dice.pick(&[0, 1, 299, 300]),
-        1 => last + 1,
-        2 => (last + 1).saturating_sub(old),
-        _ => last,
-    };
-    let mut entry = vec![tag];
+    let old = kind.unit * count + part;
+    let mut entry = vec![if dice.one_in(8) { dice.pick(&[0x47, 0x52, 0x54, 0]) } else { kind.tag }];
     entry.extend(((2 + old) as u16).to_be_bytes());
     entry.extend((start as u16).to_be_bytes());
     entry.extend(dice.bytes(old));
+    let board = &mut lent.board;
     let end = board.used.saturating_add(entry.len());
     if let Some(place) = board.journal.get_mut(board.used..end) {
         place.copy_from_slice(&entry);

@@ -5,6 +5,7 @@ use crate::areas::Board;
 use crate::differential::compare::Lent;
 use crate::differential::dice::Dice;
 use crate::differential::{drawn_boards, drawn_frames, drawn_line};
+use crate::journal::least_length;
 use crate::link;
 
 const BOARDS: usize = 40;
@@ -24,14 +25,14 @@ pub fn add(script: &mut Script) {
 /// One board; the second program follows, so that frames suit what the board then holds.
 fn board(script: &mut Script, dice: &mut Dice) {
     let points = dice.pick(&[1, 2, 3, 4, 5, 8, 13, 20, 46]);
-    let journal = drawn_boards::least_journal(points) + dice.pick(&[0, 0, 1, 45, 300]);
+    let journal = least_length(points) + dice.pick(&[0, 0, 1, 45, 300]);
     let mut lent = Lent {
         board: Board::fresh(points, journal),
         axes: vec![0; 72],
         settings: drawn_boards::settings(dice),
         reply: vec![0xEE; 1_024],
     };
-    script.board_with(points as u16, journal as u32, lent.settings.fitted, lent.settings.station);
+    script.board_with(points as u16, journal as u32, lent.settings);
     for _ in 0..dice.between(1, 3) {
         call(script, dice, &mut lent);
     }
@@ -40,7 +41,7 @@ fn board(script: &mut Script, dice: &mut Dice) {
 fn call(script: &mut Script, dice: &mut Dice, lent: &mut Lent) {
     if lent.board.used > 0 && dice.one_in(4) {
         script.step_back();
-        link::step_back(&mut lent.board);
+        link::step_back(&mut lent.board, lent.settings.firsts);
         return;
     }
     let frame = match dice.one_in(3) {
@@ -49,5 +50,5 @@ fn call(script: &mut Script, dice: &mut Dice, lent: &mut Lent) {
     };
     script.frame(&frame);
     let Lent { board, axes, settings, reply } = lent;
-    link::answer(&frame, board, axes, settings.fitted, settings.station, reply);
+    link::answer(&frame, board, axes, *settings, reply);
 }

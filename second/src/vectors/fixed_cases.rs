@@ -1,7 +1,8 @@
 //! Document 01's own examples, and each message near its limits.
 
 use super::script::{Part, Script, STATION};
-use crate::bench::command;
+use crate::areas::Settings;
+use crate::bench::{command, SETTINGS};
 
 const LISTING: [&str; 3] =
     ["!99200001234567829", "!9924400100103001E001E00640000C350FFFFFFFFF3", "!99299@@"];
@@ -38,7 +39,7 @@ fn bench_listing(script: &mut Script) {
 }
 
 fn proved_cases(script: &mut Script) {
-    script.board(20, 1_100);
+    script.board(20, 1_300);
     for line in ["!9920900100554", "!9920900100555", "!99209001005@@"] {
         script.line(line);
     }
@@ -47,7 +48,7 @@ fn proved_cases(script: &mut Script) {
     script.ask_all(&["210003E701", "210003E702", "24401000101000100020003FFFFFFFF", "209010001"]);
     script.ask_all(&["2440010010100000000000080000000", "209001001"]);
     script.find(b"");
-    script.board(1_500, 60_300);
+    script.board(1_500, 60_500);
     let point = "01000000000000FFFFFFFF";
     script.ask_all(&["2095DC001", "2095DD001", &["2445DD001", point].concat()]);
     script.ask_all(&[&["2445DC001", point].concat(), "208", "2095DC001"]);
@@ -62,14 +63,14 @@ fn bulk(count: usize, pattern: u8) -> Vec<u8> {
 
 fn run_and_compared(script: &mut Script) {
     for (count, pattern) in [(45, 0x80), (46, 0x80), (12, 0xFF), (13, 0xFF)] {
-        script.board(50, 2_300);
+        script.board(50, 2_500);
         let frame = bulk(count, pattern);
         script.find(&frame);
         script.frame(&frame);
         script.ask("208");
         script.step_back();
     }
-    script.board(50, 2_300);
+    script.board(50, 2_500);
     script.line("!992090010295A");
     script.line("!992090010295a");
 }
@@ -96,7 +97,7 @@ fn finder(script: &mut Script) {
 }
 
 fn test_calls(script: &mut Script) {
-    script.board(1, 340);
+    script.board(1, 540);
     script.ask_all(&["2000012345678", "200aZ !@#\r\n. ", "200!!!!!!!!!!"]);
     script.frame(&command(
         STATION,
@@ -128,7 +129,7 @@ fn counts_and_lists(script: &mut Script) {
     script.spoil(Part::Points, 0, 0x00);
     script.ask_all(&["208", "209001014"]);
     script.steps_back(3);
-    script.board(255, 10_500);
+    script.board(255, 10_700);
     script.ask_all(&[
         &points(254, &[1, 2]),
         &points(1, &[0x40; 40]),
@@ -140,7 +141,7 @@ fn counts_and_lists(script: &mut Script) {
 
 /// Points with these patterns from 1 on, then a list of all of them.
 fn list_of(script: &mut Script, patterns: &[u8]) {
-    script.board(patterns.len() as u16, 40 * patterns.len() as u32 + 300);
+    script.board(patterns.len() as u16, 40 * patterns.len() as u32 + 500);
     let (mut rest, mut start) = (patterns, 1);
     while !rest.is_empty() {
         // As many as one frame holds: 1,007 digits of 14 and 8 for each axis.
@@ -184,7 +185,7 @@ fn lists_at_the_limit(script: &mut Script) {
 
 /// Slots are rewritten whole: what stood in a slot before shows nowhere.
 fn rewriting(script: &mut Script) {
-    script.board(4, 600);
+    script.board(4, 660);
     script.ask(&points(1, &[0xFF, 0x7E, 0xFF, 0x81]));
     for slot in [40, 80] {
         script.spoil(Part::Points, slot + 1, 0x5A);
@@ -204,14 +205,14 @@ fn columns(script: &mut Script) {
 }
 
 fn axis_status(script: &mut Script) {
-    script.board(1, 340);
+    script.board(1, 540);
     script.ask_all(&["212FF", "21200"]);
     for axis in 0..8u8 {
         let record = [0x10 + axis, axis, 0x0A, 0xB0 + axis, 0xC0 + axis, 0xFF, 0xF9, 0xE5, 0x80];
         script.spoil_run(Part::Axes, 9 * u32::from(axis), &record);
     }
     script.ask_all(&["212FF", "21285", "21200", "21210"]);
-    script.settings(0x84, STATION);
+    script.settings(Settings { fitted: 0x84, ..SETTINGS });
     script.ask_all(&["212FF", "21287", "21203"]);
     script.spoil_run(Part::Axes, 63, &[0xFF, 15, 0x0F, 0xFF, 0xFE, 0x80, 0, 0, 0]);
     script.ask("21280");
@@ -219,11 +220,11 @@ fn axis_status(script: &mut Script) {
 
 fn settings(script: &mut Script) {
     for (station, fitted) in [(0x00, 0x01), (0xFA, 0xAA), (99, 0x7F)] {
-        script.board_with(3, 420, fitted, station);
+        script.board_with(3, 620, Settings { fitted, station, ..SETTINGS });
         script.ask_all(&["208", "299", "212FF"]);
         script.ask_all(&[&points(1, &[fitted]), &points(2, &[fitted, 0xFF]), "209001003"]);
         script.line("!99208@@");
-        script.settings(0xFF, 0x99);
+        script.settings(SETTINGS);
         script.ask(&points(2, &[fitted, 0xFF]));
     }
 }

@@ -6,6 +6,8 @@ mod journal_cases;
 mod play;
 mod refusal_cases;
 mod script;
+mod variable_cases;
+mod variable_refusals;
 
 pub use play::play;
 
@@ -17,6 +19,8 @@ pub fn stdin() -> Vec<u8> {
     fixed_cases::add(&mut script);
     refusal_cases::add(&mut script);
     journal_cases::add(&mut script);
+    variable_cases::add(&mut script);
+    variable_refusals::add(&mut script);
     drawn_cases::add(&mut script);
     script.end()
 }
@@ -41,14 +45,16 @@ mod tests {
     #[test]
     fn the_vectors_are_small_and_reach_every_number() {
         let (stdin, stdout) = both();
-        assert!(stdin.len() < 200_000, "{} bytes", stdin.len());
-        assert!((300..=700).contains(&stdout.lines().count()), "{} lines", stdout.lines().count());
+        // The product's program reads at most 131,072 bytes.
+        assert!(stdin.len() < 131_072, "{} bytes", stdin.len());
+        let lines = stdout.lines().count();
+        assert!((300..=1_300).contains(&lines), "{lines} lines");
         let numbers = |letter: &str| -> BTreeSet<u16> {
             let lines = stdout.lines().filter_map(|line| line.strip_prefix(letter));
             lines.filter_map(|line| line.split(' ').next()?.parse().ok()).collect()
         };
-        assert_eq!(numbers("F "), (0..=8).chain(101..=107).collect());
-        assert_eq!(numbers("S "), BTreeSet::from([0, 2, 3, 4, 9]));
+        assert_eq!(numbers("F "), (0..=8).chain([10]).chain(101..=108).collect());
+        assert_eq!(numbers("S "), BTreeSet::from([0, 2, 3, 4, 9, 10]));
         assert_eq!(numbers("R "), BTreeSet::from([0, 1, 2, 3]));
     }
 }

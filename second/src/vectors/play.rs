@@ -1,13 +1,15 @@
 //! Playing operations on the second program: what the vectors program must write.
 
 use super::script::Part;
-use crate::areas::Board;
+use crate::areas::{Board, Firsts, Settings};
+use crate::bench::SETTINGS;
 use crate::differential::Finding;
 use crate::{frames, link};
 use std::fmt::Write;
 
-/// Buffers the areas are lent from: points, columns, journal, reply, axes.
-const BUFFERS: [usize; 5] = [60_000, 720, 65_600, 1_100, 80];
+/// How many areas there are, and the buffers they are lent from, in the order of `Part`.
+const PARTS: usize = 7;
+const BUFFERS: [usize; PARTS] = [60_000, 720, 420, 320, 65_600, 1_100, 80];
 const PRIME: u64 = 4_294_967_291;
 
 /// The text that these operations write. They are our own: a wrong one is a panic.
@@ -20,11 +22,10 @@ pub fn play(stdin: &[u8]) -> String {
 
 struct Player<'a> {
     rest: &'a [u8],
-    buffers: [Vec<u8>; 5],
-    lent: [usize; 5],
+    buffers: [Vec<u8>; PARTS],
+    lent: [usize; PARTS],
     used: usize,
-    fitted: u8,
-    station: u8,
+    settings: Settings,
     text: String,
 }
 
@@ -33,10 +34,9 @@ impl Player<'_> {
         Player {
             rest: stdin,
             buffers: BUFFERS.map(|length| vec![0; length]),
-            lent: [0; 5],
+            lent: [0; PARTS],
             used: 0,
-            fitted: 0,
-            station: 0,
+            settings: SETTINGS,
             text: String::new(),
         }
     }
@@ -48,7 +48,7 @@ impl Player<'_> {
             b'X' => self.spoil(),
             b'U' => self.used = self.number(8) as usize,
             b'L' => self.lend(),
-            b'P' => (self.fitted, self.station) = (self.number(1) as u8, self.number(1) as u8),
+            b'P' => self.change_settings(),
             b'F' => self.answer(),
             b'S' => self.step_back(),
             b'R' => self.find(),
@@ -71,15 +71,25 @@ impl Player<'_> {
     /// A fresh board. Whole buffers are cleared, so that nothing of another board is ever lent.
     fn board(&mut self) {
         let points = 40 * self.number(2) as usize;
-        (self.fitted, self.station) = (self.number(1) as u8, self.number(1) as u8);
+        let (fitted, station) = (self.number(1) as u8, self.number(1) as u8);
         let journal = self.number(4) as usize;
+        self.settings = Settings { fitted, station, firsts: self.firsts() };
         for buffer in &mut self.buffers {
             buffer.fill(0);
         }
         self.buffers[Part::Reply as usize].fill(0xEE);
-        self.lent = [points, 700, journal, 1_024, 72];
+        self.lent = [points, 700, 400, 300, journal, 1_024, 72];
         self.used = 0;
         assert!(self.lent.iter().zip(BUFFERS).all(|(&lent, length)| lent <= length));
+    }
+
+    fn change_settings(&mut self) {
+        let (fitted, station) = (self.number(1) as u8, self.number(1) as u8);
+        self.settings = Settings { fitted, station, firsts: self.firsts() };
+    }
+
+    fn firsts(&mut self) -> Firsts {
+        Firsts { integer: self.number(2) as u16, flag: self.number(2) as u16 }
     }
 
     fn spoil(&mut self) {
@@ -101,6 +111,8 @@ impl Player<'_> {
         Board {
             points: self.lent(Part::Points).to_vec(),
             columns: self.lent(Part::Columns).to_vec(),
+            integers: self.lent(Part::Integers).to_vec(),
+            flags: self.lent(Part::Flags).to_vec(),
             journal: self.lent(Part::Journal).to_vec(),
             used: self.used,
         }
@@ -114,6 +126,8 @@ impl Player<'_> {
     fn lay_board(&mut self, board: &Board) {
         self.lay(Part::Points, &board.points);
         self.lay(Part::Columns, &board.columns);
+        self.lay(Part::Integers, &board.integers);
+        self.lay(Part::Flags, &board.flags);
         self.lay(Part::Journal, &board.journal);
         self.used = board.used;
     }
@@ -124,19 +138,18 @@ impl Player<'_> {
         let mut board = self.board_lent();
         let mut reply = self.lent(Part::Reply).to_vec();
         let axes = self.lent(Part::Axes);
-        let outcome = link::answer(&frame, &mut board, axes, self.fitted, self.station, &mut reply);
+        let outcome = link::answer(&frame, &mut board, axes, self.settings, &mut reply);
         self.lay_board(&board);
         self.lay(Part::Reply, &reply);
-        let digests = self.digests(&[Part::Points, Part::Columns, Part::Journal, Part::Reply]);
+        let digests = [self.kept(), self.digest(Part::Reply)].concat();
         self.write(format!("F {} {} {}{digests}", outcome.number, outcome.reply_length, self.used));
     }
 
     fn step_back(&mut self) {
         let mut board = self.board_lent();
-        let number = link::step_back(&mut board);
+        let number = link::step_back(&mut board, self.settings.firsts);
         self.lay_board(&board);
-        let digests = self.digests(&[Part::Points, Part::Columns, Part::Journal]);
-        self.write(format!("S {number} {}{digests}", self.used));
+        self.write(format!("S {number} {}{}", self.used, self.kept()));
     }
 
     fn find(&mut self) {
@@ -145,8 +158,15 @@ impl Player<'_> {
         self.write(format!("R {code} {start} {length} {drop}"));
     }
 
-    fn digests(&self, parts: &[Part]) -> String {
-        parts.iter().map(|&part| format!(" {:08X}", digest(self.lent(part)))).collect()
+    /// Digests of the areas that the board keeps.
+    fn kept(&self) -> String {
+        [Part::Points, Part::Columns, Part::Integers, Part::Flags, Part::Journal]
+            .map(|part| self.digest(part))
+            .concat()
+    }
+
+    fn digest(&self, part: Part) -> String {
+        format!(" {:08X}", digest(self.lent(part)))
     }
 
     fn write(&mut self, line: String) {
@@ -202,26 +222,28 @@ mod tests {
     #[test]
     fn a_small_script_by_hand() {
         let script = [
-            &b"B\x00\x01\xFF\x99\x00\x00\x01\x54"[..],
+            &b"B\x00\x01\xFF\x99\x00\x00\x02\x1C\x00\xC8\x02\x58"[..],
             b"F\x00\x0A!99208@@\r\n",
-            b"P\x01\x98F\x00\x0A!99208@@\r\n",
+            b"P\x01\x98\x00\xC8\x02\x58F\x00\x0A!99208@@\r\n",
+            b"P\x01\x98\x0F\x9D\x02\x58SP\x01\x98\x00\xC8\x02\x58",
             b"U\x00\x00\x00\x00\x00\x00\x00\x01S",
-            b"L\x00\x00\x00\x00\x00X\x01\x00\x00\x00\x00\x07S",
+            b"L\x00\x00\x00\x00\x00X\x02\x00\x00\x00\x00\x07S",
             b"R\x00\x03!\r\nE",
         ]
         .concat();
         let text = play(&script);
         let lines: Vec<&str> = text.lines().collect();
-        assert_eq!(lines.len(), 5);
+        assert_eq!(lines.len(), 6);
         assert!(lines[0].starts_with("F 0 13 0 "));
-        assert_eq!(lines[0].split(' ').count(), 8);
+        assert_eq!(lines[0].split(' ').count(), 10);
         assert!(lines[1].starts_with("F 8 0 0 "));
         assert_eq!(lines[0].split(' ').next_back(), lines[1].split(' ').next_back());
-        assert!(lines[2].starts_with("S 4 1 "));
-        assert_eq!(lines[2].split(' ').count(), 6);
-        assert!(lines[3].starts_with("S 2 1 00000000 "));
-        assert_ne!(lines[2].split(' ').nth(4), lines[3].split(' ').nth(4));
-        assert_eq!(lines[4], "R 0 0 3 3");
+        assert!(lines[2].starts_with("S 10 0 "));
+        assert!(lines[3].starts_with("S 4 1 "));
+        assert_eq!(lines[3].split(' ').count(), 8);
+        assert!(lines[4].starts_with("S 2 1 00000000 "));
+        assert_ne!(lines[3].split(' ').nth(5), lines[4].split(' ').nth(5));
+        assert_eq!(lines[5], "R 0 0 3 3");
         assert!(text.ends_with('\n'));
     }
 }

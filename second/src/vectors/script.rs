@@ -1,20 +1,22 @@
 //! Writing operations: one letter, then its numbers, high byte first.
 
-use crate::bench::command;
+use crate::areas::Settings;
+use crate::bench::{command, SETTINGS};
 
 /// An area that may be spoiled or lent at another length, by its number in the format.
 #[derive(Clone, Copy, Debug, PartialEq, Eq)]
 pub enum Part {
     Points = 0,
     Columns = 1,
-    Journal = 2,
-    Reply = 3,
-    Axes = 4,
+    Integers = 2,
+    Flags = 3,
+    Journal = 4,
+    Reply = 5,
+    Axes = 6,
 }
 
-/// Station and fitted axes of the bench listing.
-pub const STATION: u8 = 0x99;
-pub const FITTED: u8 = 0xFF;
+/// Station of the bench listing.
+pub const STATION: u8 = SETTINGS.station;
 
 #[derive(Default)]
 pub struct Script {
@@ -25,15 +27,21 @@ pub struct Script {
 impl Script {
     /// A fresh board as on the bench.
     pub fn board(&mut self, points: u16, journal_length: u32) {
-        self.board_with(points, journal_length, FITTED, STATION);
+        self.board_with(points, journal_length, SETTINGS);
     }
 
-    pub fn board_with(&mut self, points: u16, journal_length: u32, fitted: u8, station: u8) {
+    pub fn board_with(&mut self, points: u16, journal_length: u32, settings: Settings) {
         self.bytes.push(b'B');
         self.bytes.extend(points.to_be_bytes());
-        self.bytes.extend([fitted, station]);
+        self.bytes.extend([settings.fitted, settings.station]);
         self.bytes.extend(journal_length.to_be_bytes());
-        self.station = station;
+        self.firsts(settings);
+    }
+
+    fn firsts(&mut self, settings: Settings) {
+        self.bytes.extend(settings.firsts.integer.to_be_bytes());
+        self.bytes.extend(settings.firsts.flag.to_be_bytes());
+        self.station = settings.station;
     }
 
     pub fn spoil(&mut self, part: Part, offset: u32, value: u8) {
@@ -58,9 +66,9 @@ impl Script {
         self.bytes.extend(length.to_be_bytes());
     }
 
-    pub fn settings(&mut self, fitted: u8, station: u8) {
-        self.bytes.extend([b'P', fitted, station]);
-        self.station = station;
+    pub fn settings(&mut self, settings: Settings) {
+        self.bytes.extend([b'P', settings.fitted, settings.station]);
+        self.firsts(settings);
     }
 
     /// Answers these bytes.
