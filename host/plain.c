@@ -431,7 +431,7 @@ static uint16_t judge_points(struct asked *asked, size_t held, uint8_t fitted)
     return number == 0 && faulty ? 107 : number;
 }
 
-/* 103 to 106 of 20EH, 210H, 24CH and 24EH: program 2, start 3, count 2, then so many digits for each. */
+/* 103 to 106 of 20EH, 210H, 24CH and 24EH: program 2, start 3, count 2, in the writes more for each. */
 static uint16_t judge_run(struct asked *asked, size_t digits_each, size_t first, size_t last)
 {
     if (asked->length < 7)
@@ -546,22 +546,31 @@ static void put_point_list(struct text *text, const struct areas *areas, const s
     text->sum += front.sum;
 }
 
-/* Up to eight flags as a byte, the first in bit 0. */
-static unsigned eight(const uint8_t *flags, size_t count)
+/* Four flags as a digit's value, the first in bit 0. */
+static unsigned four_flags(const uint8_t *flags)
 {
-    unsigned byte = 0;
-    size_t i;
-    for (i = 0; i < count; i++)
-        byte |= (unsigned)(flags[i] != 0) << i;
-    return byte;
+    return (unsigned)((flags[0] != 0) | (flags[1] != 0) << 1 | (flags[2] != 0) << 2 | (flags[3] != 0) << 3);
 }
 
-/* Two digits for each eight flags begun. */
+/* Two digits for each eight flags begun. The place and the sum are kept in registers on the way. */
 static void put_flags(struct text *text, const uint8_t *flags, size_t count)
 {
-    for (; count > 8; count -= 8, flags += 8)
-        put_two(text, eight(flags, 8));
-    put_two(text, eight(flags, count));
+    uint8_t *at = text->at, high, low;
+    unsigned sum = text->sum, rest = 0;
+    size_t i;
+    for (; count >= 8; count -= 8, flags += 8, at += 2) {
+        high = digit_of[four_flags(flags + 4)];
+        low = digit_of[four_flags(flags)];
+        at[0] = high;
+        at[1] = low;
+        sum += (unsigned)high + low;
+    }
+    text->at = at;
+    text->sum = sum;
+    for (i = 0; i < count; i++)
+        rest |= (unsigned)(flags[i] != 0) << i;
+    if (count > 0)
+        put_two(text, rest);
 }
 
 static void put_axes(struct text *text, const uint8_t *axes, unsigned pattern)
