@@ -66,7 +66,8 @@ static int is_then_zero(const uint8_t *area, size_t area_length, const uint8_t *
 /* Integers are as written so far (1) or fresh (0), and so are flags. */
 static int variables_are(int integers_written, int flags_written)
 {
-    return is_then_zero(board.integers, sizeof board.integers, integers, integers_written ? sizeof integers : 0) &&
+    return is_then_zero(board.integers, sizeof board.integers,
+                        integers, integers_written ? sizeof integers : 0) &&
            is_then_zero(board.flags, sizeof board.flags, flags, flags_written ? sizeof flags : 0);
 }
 
