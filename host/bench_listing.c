@@ -1,8 +1,9 @@
 /*
  * bench_listing.c: plays document 01's bench listing through cabinet.h and compares every byte.
  *
- * The input is received in pieces of every length, found, answered, then stepped back and queried.
- * Exits 0 where all is as the listing says, 1 at the first difference.
+ * The input is received in pieces of every length, found, answered, then stepped back and queried. Then
+ * integer variables and flags are written, queried and stepped back. Exits 0 where all is as the listing
+ * and the documents say, 1 at the first difference.
  */
 #include "cabinet.h"
 
@@ -10,6 +11,7 @@
 #include <string.h>
 
 enum { POINTS_HELD = 500, JOURNAL_BYTES = 32768, STATION = 0x99, FITTED = 0xFF, GUARD = 0xEE };
+enum { FIRST_INTEGER = 200, FIRST_FLAG = 600 };
 
 static const char input[] = "!99200001234567829\r\n"
                             "!9924400100103001E001E00640000C350FFFFFFFFF3\r\n"
@@ -23,12 +25,18 @@ static const uint8_t point_1[CABINET_SLOT_BYTES] = {0x03, 0, 0, 30, 0, 30, 0, 10
 /* The entry of the second frame: tag, length 2+40, start 1, and the old slot, which was zero. */
 static const uint8_t entry[5] = {0x50, 0, 42, 0, 1};
 
+/* Integers 200 and 201 as written, 42 and -1, flag 601 on, and their two entries: both were zero. */
+static const uint8_t integers[8] = {0, 0, 0, 42, 0xFF, 0xFF, 0xFF, 0xFF};
+static const uint8_t flags[2] = {0, 1};
+static const uint8_t entries[19] = {0x49, 0, 10, 0, 200, 0, 0, 0, 0, 0, 0, 0, 0, 0x46, 0, 3, 0x02, 0x59, 0};
+
 static uint8_t points[CABINET_POINTS_BYTES(POINTS_HELD)];
 static uint8_t journal[JOURNAL_BYTES];
 static struct cabinet board = {
     .points = points, .points_length = sizeof points,
     .journal = journal, .journal_length = sizeof journal,
-    .fitted = FITTED, .station = STATION
+    .fitted = FITTED, .station = STATION,
+    .first_integer = FIRST_INTEGER, .first_flag = FIRST_FLAG
 };
 
 /* Received and not yet dropped; the replies so far. */
@@ -55,12 +63,20 @@ static int is_then_zero(const uint8_t *area, size_t area_length, const uint8_t *
     return 1;
 }
 
-/* Points, journal and used length are as after the write (1) or fresh (0); columns are fresh. */
+/* Integers are as written so far (1) or fresh (0), and so are flags. */
+static int variables_are(int integers_written, int flags_written)
+{
+    return is_then_zero(board.integers, sizeof board.integers,
+                        integers, integers_written ? sizeof integers : 0) &&
+           is_then_zero(board.flags, sizeof board.flags, flags, flags_written ? sizeof flags : 0);
+}
+
+/* Points, journal and used length are as after the write (1) or fresh (0); all else is fresh. */
 static int areas_are(int written)
 {
     return is_then_zero(points, sizeof points, point_1, written ? sizeof point_1 : 0) &&
            is_then_zero(board.columns, sizeof board.columns, board.columns, 0) &&
-           is_then_zero(journal, sizeof journal, entry, written ? sizeof entry : 0) &&
+           is_then_zero(journal, sizeof journal, entry, written ? sizeof entry : 0) && variables_are(0, 0) &&
            is_then_zero(board.axes, sizeof board.axes, board.axes, 0) && board.used == (written ? 45u : 0u);
 }
 
@@ -69,6 +85,8 @@ static void start_fresh(void)
     memset(points, 0, sizeof points);
     memset(journal, 0, sizeof journal);
     memset(board.columns, 0, sizeof board.columns);
+    memset(board.integers, 0, sizeof board.integers);
+    memset(board.flags, 0, sizeof board.flags);
     memset(board.axes, 0, sizeof board.axes);
     board.used = 0;
     held = 0;
@@ -155,13 +173,65 @@ static int play(size_t piece)
     return 0;
 }
 
+/* Two integers and a flag written and queried, with refusals between. */
+static int write_variables(void)
+{
+    return answers("!9924C000C8020000002AFFFFFFFF6C\r\n", CABINET_ACCEPTED, "#9924C000C802AB\r\n") &&
+           answers("!9920E000C802A7\r\n", CABINET_ACCEPTED, "#9920E000C8020000002AFFFFFFFF6C\r\n") &&
+           answers("!9920E0012B01A0\r\n", CABINET_ACCEPTED, "#9920E0012B010000000022\r\n") &&
+           answers("!9920E0012B02A1\r\n", CABINET_REFUSED_NOT_HELD, "&991062F\r\n") &&
+           answers("!9924B00025929D\r\n", CABINET_REFUSED_CHANGE_TYPE, "&9910831\r\n") && variables_are(1, 0) &&
+           answers("!9924B00025919C\r\n", CABINET_ACCEPTED, "#9924B3D\r\n") &&
+           answers("!9920D000258000931\r\n", CABINET_ACCEPTED, "#9920D00025800090200F5\r\n") &&
+           variables_are(1, 1) && is_then_zero(journal, sizeof journal, entries, sizeof entries) &&
+           board.used == sizeof entries;
+}
+
+/* Settings that run past their fields are refused by both calls, and nothing is done. */
+static int refuses_settings(uint16_t first_integer, uint16_t first_flag)
+{
+    int refused;
+    board.first_integer = first_integer;
+    board.first_flag = first_flag;
+    refused = answers("!9920E000C802A7\r\n", CABINET_REFUSED_VARIABLES, "") &&
+              steps_back(CABINET_REFUSED_VARIABLES) && variables_are(1, 1) && board.used == sizeof entries;
+    board.first_integer = FIRST_INTEGER;
+    board.first_flag = FIRST_FLAG;
+    return refused;
+}
+
+static int variables_failed(const char *what)
+{
+    fprintf(stderr, "integers and flags: %s\n", what);
+    return 1;
+}
+
+static int play_variables(void)
+{
+    start_fresh();
+    if (!write_variables())
+        return variables_failed("writes, queries and refusals");
+    if (!refuses_settings(3997, FIRST_FLAG) || !refuses_settings(FIRST_INTEGER, 65237))
+        return variables_failed("settings");
+    if (!steps_back(CABINET_ACCEPTED) || !variables_are(1, 0) ||
+        !answers("!9920D000258000931\r\n", CABINET_ACCEPTED, "#9920D00025800090000F3\r\n"))
+        return variables_failed("step back of a flag");
+    if (!steps_back(CABINET_ACCEPTED) || !areas_are(0) ||
+        !answers("!9920E000C802A7\r\n", CABINET_ACCEPTED, "#9920E000C8020000000000000000A9\r\n"))
+        return variables_failed("step back of integers");
+    return 0;
+}
+
 int main(void)
 {
     size_t piece;
     for (piece = 1; piece < sizeof input; piece++)
         if (play(piece) != 0)
             return 1;
+    if (play_variables() != 0)
+        return 1;
     printf("bench listing: every byte as document 01 has it, in pieces of 1 to %lu\n",
            (unsigned long)(sizeof input - 1));
+    printf("integers and flags: written, queried, refused and stepped back as the documents say\n");
     return 0;
 }

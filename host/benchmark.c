@@ -24,6 +24,8 @@
 
 #define STATION 0x99
 #define FITTED 0xFF
+#define FIRST_INTEGER 200
+#define FIRST_FLAG 600
 #define RECEIVED 4096 /* bytes that the finder looks through */
 #define LINE 3840.0   /* bytes a second: 38,400 baud, ten bits a byte */
 #define TURNS 200     /* of each implementation; short, so that some are undisturbed */
@@ -47,8 +49,10 @@
 struct calls {
     uint8_t (*receive)(const uint8_t *, size_t, size_t *, size_t *, size_t *);
     uint16_t (*answer)(const uint8_t *, size_t, uint8_t *, size_t, uint8_t *, size_t, uint8_t *, size_t,
-                       size_t *, const uint8_t *, size_t, uint8_t, uint8_t, uint8_t *, size_t, size_t *);
-    uint16_t (*step_back)(uint8_t *, size_t, uint8_t *, size_t, uint8_t *, size_t, size_t *);
+                       uint8_t *, size_t, uint8_t *, size_t, size_t *, const uint8_t *, size_t,
+                       uint8_t, uint8_t, uint16_t, uint16_t, uint8_t *, size_t, size_t *);
+    uint16_t (*step_back)(uint8_t *, size_t, uint8_t *, size_t, uint8_t *, size_t, uint8_t *, size_t,
+                          uint8_t *, size_t, size_t *, uint16_t, uint16_t);
 };
 
 enum { ARCHIVE, PLAIN_O2, PLAIN_O3, MADE };
@@ -68,6 +72,8 @@ struct board {
     size_t start, length, drop;
     uint8_t points[CABINET_POINTS_BYTES(CABINET_MOST_POINTS)];
     uint8_t columns[CABINET_COLUMNS_BYTES];
+    uint8_t integers[CABINET_INTEGERS_BYTES];
+    uint8_t flags[CABINET_FLAGS_BYTES];
     uint8_t journal[CABINET_MOST_JOURNAL_BYTES];
     uint8_t reply[CABINET_REPLY_BYTES];
 };
@@ -100,13 +106,16 @@ static unsigned make_call(const struct calls *calls)
     if (trial.kind == ANSWER)
         return calls->answer(trial.handed, trial.handed_length, work.points,
                              CABINET_POINTS_BYTES(trial.held), work.columns, CABINET_COLUMNS_BYTES,
-                             work.journal, trial.journal_length, &work.used,
-                             trial.axes, CABINET_AXES_BYTES, FITTED, STATION,
+                             work.integers, CABINET_INTEGERS_BYTES, work.flags, CABINET_FLAGS_BYTES,
+                             work.journal, trial.journal_length, &work.used, trial.axes,
+                             CABINET_AXES_BYTES, FITTED, STATION, FIRST_INTEGER, FIRST_FLAG,
                              work.reply, CABINET_REPLY_BYTES, &work.reply_length);
     if (trial.kind == STEP_BACK)
         return calls->step_back(work.points, CABINET_POINTS_BYTES(trial.held),
                                 work.columns, CABINET_COLUMNS_BYTES,
-                                work.journal, trial.journal_length, &work.used);
+                                work.integers, CABINET_INTEGERS_BYTES, work.flags, CABINET_FLAGS_BYTES,
+                                work.journal, trial.journal_length, &work.used,
+                                FIRST_INTEGER, FIRST_FLAG);
     return calls->receive(trial.handed, trial.handed_length, &work.start, &work.length, &work.drop);
 }
 
@@ -149,6 +158,14 @@ static void draw_points(size_t every)
     }
 }
 
+/* Off or on, as 24BH stores them. */
+static void draw_flags(void)
+{
+    size_t i;
+    for (i = 0; i < CABINET_FLAGS_HELD; i++)
+        built.flags[i] = drawn() & 1;
+}
+
 /* Sensor and error code within their limits. */
 static void draw_axes(void)
 {
@@ -175,6 +192,8 @@ static void begin(const char *name, size_t held)
     draw(built.columns, CABINET_COLUMNS_BYTES);
     draw_points(1);
     draw_axes();
+    draw(built.integers, CABINET_INTEGERS_BYTES);
+    draw_flags();
 }
 
 static void add_entry(uint8_t tag, unsigned start, size_t old)
@@ -228,6 +247,14 @@ static void say_point(unsigned pattern)
             say_drawn(4);
 }
 
+/* A command up to its program number, then start and count of all integers. */
+static void say_integers(const char *command)
+{
+    say(command);
+    say_number(FIRST_INTEGER, 3);
+    say_number(CABINET_INTEGERS_HELD, 2);
+}
+
 static void say_points(unsigned long start, unsigned long count)
 {
     unsigned long i;
@@ -261,6 +288,10 @@ static void compare(const struct board *one, const struct board *other)
         fail("another points area");
     if (memcmp(one->columns, other->columns, sizeof one->columns) != 0)
         fail("another columns area");
+    if (memcmp(one->integers, other->integers, sizeof one->integers) != 0)
+        fail("another integers area");
+    if (memcmp(one->flags, other->flags, sizeof one->flags) != 0)
+        fail("another flags area");
     if (memcmp(one->journal, other->journal, sizeof one->journal) != 0)
         fail("another journal");
     if (memcmp(one->reply, other->reply, sizeof one->reply) != 0)
@@ -443,6 +474,22 @@ static void sparse_list(size_t held)
     run_frame(CABINET_ACCEPTED, 985);
 }
 
+static void flag_query(size_t held)
+{
+    begin("20DH, 300 flags", held);
+    say("!9920D00");
+    say_number(FIRST_FLAG, 4);
+    say_number(CABINET_FLAGS_HELD, 4);
+    run_frame(CABINET_ACCEPTED, 96);
+}
+
+static void integer_query(size_t held)
+{
+    begin("20EH, 100 integers", held);
+    say_integers("!9920E00");
+    run_frame(CABINET_ACCEPTED, 817);
+}
+
 static void column_query(size_t held)
 {
     begin("210H, 255 columns", held);
@@ -486,6 +533,23 @@ static void clear_all(size_t held)
     say("!99246001");
     say_number(held, 3);
     run_frame(CABINET_ACCEPTED, 10);
+}
+
+static void write_flag(size_t held)
+{
+    begin("24BH", held);
+    say("!9924B00");
+    say_number(FIRST_FLAG + 7, 4);
+    say("1");
+    run_frame(CABINET_ACCEPTED, 10);
+}
+
+static void write_integers(size_t held)
+{
+    begin("24CH, 100 integers", held);
+    say_integers("!9924C00");
+    say_drawn(CABINET_INTEGERS_BYTES);
+    run_frame(CABINET_ACCEPTED, 17);
 }
 
 static void write_columns(size_t held)
@@ -646,8 +710,8 @@ static void find_longest(void)
 }
 
 static void (*const trials[])(size_t) = {
-    test_call, point_count, full_list, sparse_list, column_query, axis_status,
-    write_point, write_points, clear_points, clear_all, write_columns,
+    test_call, point_count, full_list, sparse_list, flag_query, integer_query, column_query, axis_status,
+    write_point, write_points, clear_points, clear_all, write_flag, write_integers, write_columns,
     wrong_sum, unknown_message, not_held, wrong_pattern,
     write_points_half_full, write_column_half_full, write_points_full, write_column_full,
     clear_full_of_columns, test_call_full_of_columns,

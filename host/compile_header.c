@@ -2,15 +2,17 @@
 #include "cabinet.h"
 #include "cabinet.h"
 
-#if CABINET_VERSION < 1
+#if CABINET_VERSION < 2
 #error "an older cabinet.h"
 #endif
 
 typedef uint8_t receive_call(const uint8_t *, size_t, size_t *, size_t *, size_t *);
 typedef uint16_t answer_call(const uint8_t *, size_t, uint8_t *, size_t, uint8_t *, size_t,
-                             uint8_t *, size_t, size_t *, const uint8_t *, size_t,
-                             uint8_t, uint8_t, uint8_t *, size_t, size_t *);
-typedef uint16_t step_back_call(uint8_t *, size_t, uint8_t *, size_t, uint8_t *, size_t, size_t *);
+                             uint8_t *, size_t, uint8_t *, size_t, uint8_t *, size_t, size_t *,
+                             const uint8_t *, size_t, uint8_t, uint8_t, uint16_t, uint16_t,
+                             uint8_t *, size_t, size_t *);
+typedef uint16_t step_back_call(uint8_t *, size_t, uint8_t *, size_t, uint8_t *, size_t, uint8_t *, size_t,
+                                uint8_t *, size_t, size_t *, uint16_t, uint16_t);
 typedef uint16_t answer_frame_call(struct cabinet *, const uint8_t *, size_t);
 typedef uint16_t take_back_call(struct cabinet *);
 
@@ -38,6 +40,8 @@ int host_in_both_languages(const uint8_t *frame, size_t frame_length)
     board.journal_length = sizeof journal;
     board.fitted = 0xFF;
     board.station = 0x99;
+    board.first_integer = 200;
+    board.first_flag = 600;
     if (cabinet_answer_frame(&board, frame, frame_length) != CABINET_ACCEPTED)
         return 0;
     switch (cabinet_take_back(&board)) {
@@ -47,11 +51,12 @@ int host_in_both_languages(const uint8_t *frame, size_t frame_length)
     }
 }
 
-/* The lengths and numbers of document 01: an array of -1 bytes would not compile. */
+/* The lengths and numbers of documents 01 and 02: an array of -1 bytes would not compile. */
 typedef char lengths_are_right[
-    CABINET_POINTS_BYTES(CABINET_MOST_POINTS) == 60000 && CABINET_LEAST_JOURNAL_BYTES(500) == 20300 &&
+    CABINET_POINTS_BYTES(CABINET_MOST_POINTS) == 60000 && CABINET_LEAST_JOURNAL_BYTES(500) == 20500 &&
     CABINET_LEAST_JOURNAL_BYTES(CABINET_MOST_POINTS) <= CABINET_MOST_JOURNAL_BYTES &&
-    CABINET_AXES_BYTES == 72 ? 1 : -1];
+    CABINET_INTEGERS_BYTES == 400 && CABINET_FLAGS_BYTES == 300 && CABINET_AXES_BYTES == 72 ? 1 : -1];
 typedef char numbers_are_right[
     CABINET_ACCEPTED == 0 && CABINET_REFUSED_NO_WRITE_LEFT == 9 && CABINET_REFUSED_MESSAGE == 101 &&
-    CABINET_REFUSED_PATTERN == 107 && CABINET_TOO_LONG == 3 ? 1 : -1];
+    CABINET_REFUSED_PATTERN == 107 && CABINET_REFUSED_VARIABLES == 10 && CABINET_REFUSED_CHANGE_TYPE == 108 &&
+    CABINET_TOO_LONG == 3 ? 1 : -1];

@@ -1,5 +1,5 @@
 /*
- * plain.c: the board's three calls, written plainly by hand from document 01 and document 000.
+ * plain.c: the board's three calls, written plainly by hand from documents 01, 02 (request a) and 000.
  *
  * No heap and no second buffers: replies are written where they are lent, old bytes go straight into
  * the journal. A frame is read once for its sum and once for its fields. Any bytes and any lengths
@@ -15,6 +15,11 @@ enum {
     COLUMNS_LENGTH = 700,
     FIRST_COLUMN = 300,
     LAST_COLUMN = 999,
+    INTEGER = 4,
+    INTEGERS = 100,
+    MOST_INTEGER = 0xFFF, /* the largest number that its field of a frame holds */
+    FLAGS = 300,
+    MOST_FLAG = 0xFFFF,
     AXES = 8,
     RECORD = 9,
     SHORTEST_FRAME = 10,
@@ -25,10 +30,12 @@ enum {
     END = 4, /* SC, CR, LF */
     POINTS_TAG = 0x50,
     COLUMNS_TAG = 0x53,
+    INTEGERS_TAG = 0x49,
+    FLAGS_TAG = 0x46,
     ENTRY_HEAD = 5, /* tag, length, start number */
     ENTRY_START = 2, /* the start number is part of the length */
     MOST_ENTRY_COLUMNS = 255,
-    JOURNAL_MORE = 300, /* the least journal is longer than the points by this */
+    JOURNAL_MORE = 500, /* the least journal is longer than the points by this */
     MOST_JOURNAL = 65536
 };
 
@@ -62,6 +69,12 @@ static uint8_t two(const uint8_t *field)
 static unsigned three(const uint8_t *field)
 {
     return (unsigned)(digit[field[0]] & 15) << 8 | two(field + 1);
+}
+
+/* The number four digits stand for. */
+static unsigned four(const uint8_t *field)
+{
+    return (unsigned)two(field) << 8 | two(field + 2);
 }
 
 /* `count` bytes from twice as many digits. */
@@ -150,7 +163,7 @@ static size_t error_reply(uint8_t *reply, uint8_t station, uint16_t number)
     struct text text = {reply, 0};
     put(&text, '&');
     put_two(&text, station);
-    put(&text, '1'); /* 101 to 107 */
+    put(&text, '1'); /* 101 to 108 */
     put(&text, '0');
     put(&text, digit_of[number - 100]);
     return close_reply(&text, reply);
@@ -158,11 +171,15 @@ static size_t error_reply(uint8_t *reply, uint8_t station, uint16_t number)
 
 /* ---- areas ---- */
 
-/* The areas of a call that passed tests 2, 3 and 4. */
+/* The areas of a call that passed tests 2, 3, 10 and 4. */
 struct areas {
     uint8_t *points;
     size_t held; /* N */
     uint8_t *columns;
+    uint8_t *integers;
+    size_t first_integer, last_integer;
+    uint8_t *flags;
+    size_t first_flag, last_flag;
     uint8_t *journal;
     size_t journal_length;
     size_t used;
@@ -176,7 +193,7 @@ static int is_held(size_t start, size_t count, size_t first, size_t last)
 }
 
 /* Length of the well-formed entry at the front of `left` bytes, 0 where there is none. */
-static size_t entry_length(const uint8_t *entry, size_t left, size_t held)
+static size_t entry_length(const struct areas *areas, const uint8_t *entry, size_t left)
 {
     size_t follows, old, start;
     int good = 0;
@@ -188,9 +205,13 @@ static size_t entry_length(const uint8_t *entry, size_t left, size_t held)
         return 0;
     old = follows - ENTRY_START;
     if (entry[0] == POINTS_TAG)
-        good = old % SLOT == 0 && is_held(start, old / SLOT, 1, held);
+        good = old % SLOT == 0 && is_held(start, old / SLOT, 1, areas->held);
     else if (entry[0] == COLUMNS_TAG)
         good = old <= MOST_ENTRY_COLUMNS && is_held(start, old, FIRST_COLUMN, LAST_COLUMN);
+    else if (entry[0] == INTEGERS_TAG)
+        good = old % INTEGER == 0 && is_held(start, old / INTEGER, areas->first_integer, areas->last_integer);
+    else if (entry[0] == FLAGS_TAG)
+        good = old == 1 && is_held(start, 1, areas->first_flag, areas->last_flag);
     return good ? ENTRY_HEAD + old : 0;
 }
 
@@ -200,7 +221,7 @@ static int walk_journal(struct areas *areas)
     size_t at = 0, length;
     areas->last = 0;
     while (at < areas->used) {
-        length = entry_length(areas->journal + at, areas->used - at, areas->held);
+        length = entry_length(areas, areas->journal + at, areas->used - at);
         if (length == 0)
             return 0;
         areas->last = at;
@@ -209,13 +230,19 @@ static int walk_journal(struct areas *areas)
     return 1;
 }
 
-/* Tests 2, 3 and 4, which both calls make; 0 where none holds. */
-static uint16_t test_areas(struct areas *areas, size_t points_length, size_t columns_length)
+/* Tests 2, 3, 10 and 4, which both calls make; 0 where none holds. */
+static uint16_t test_areas(struct areas *areas, size_t points_length, size_t columns_length,
+                           size_t integers_length, size_t flags_length)
 {
     if (points_length % SLOT != 0 || points_length < SLOT || points_length > MOST_POINTS_LENGTH)
         return 2;
     if (columns_length != COLUMNS_LENGTH)
         return 3;
+    areas->last_integer = areas->first_integer + INTEGERS - 1;
+    areas->last_flag = areas->first_flag + FLAGS - 1;
+    if (integers_length != INTEGER * INTEGERS || areas->last_integer > MOST_INTEGER ||
+        flags_length != FLAGS || areas->last_flag > MOST_FLAG)
+        return 10;
     if (areas->journal_length < points_length + JOURNAL_MORE || areas->journal_length > MOST_JOURNAL)
         return 4;
     areas->held = points_length / SLOT;
@@ -250,15 +277,24 @@ static void keep_old(struct areas *areas, uint8_t tag, unsigned start,
     memset(areas->journal + areas->used, 0, areas->journal_length - areas->used);
 }
 
+/* Where the bytes of a held number begin. */
+static uint8_t *place_of(const struct areas *areas, uint8_t tag, size_t start)
+{
+    if (tag == POINTS_TAG)
+        return areas->points + SLOT * (start - 1);
+    if (tag == COLUMNS_TAG)
+        return areas->columns + (start - FIRST_COLUMN);
+    if (tag == INTEGERS_TAG)
+        return areas->integers + INTEGER * (start - areas->first_integer);
+    return areas->flags + (start - areas->first_flag);
+}
+
 /* Puts the last entry's old bytes back and removes it. */
 static void take_back(struct areas *areas)
 {
     uint8_t *entry = areas->journal + areas->last;
     size_t length = areas->used - areas->last - ENTRY_HEAD;
-    size_t start = pair(entry + 3);
-    uint8_t *place = entry[0] == POINTS_TAG ? areas->points + SLOT * (start - 1)
-                                            : areas->columns + (start - FIRST_COLUMN);
-    memcpy(place, entry + ENTRY_HEAD, length);
+    memcpy(place_of(areas, entry[0], pair(entry + 3)), entry + ENTRY_HEAD, length);
     memset(entry, 0, areas->journal_length - areas->last);
     areas->used = areas->last;
 }
@@ -313,10 +349,14 @@ enum {
     TEST_CALL = 0x200,
     POINT_COUNT = 0x208,
     POINT_LIST = 0x209,
+    FLAG_QUERY = 0x20D,
+    INTEGER_QUERY = 0x20E,
     COLUMN_QUERY = 0x210,
     AXIS_STATUS = 0x212,
     POINT_WRITE = 0x244,
     POINT_CLEAR = 0x246,
+    FLAG_WRITE = 0x24B,
+    INTEGER_WRITE = 0x24C,
     COLUMN_WRITE = 0x24E,
     UNKNOWN = 0
 };
@@ -337,8 +377,9 @@ static unsigned message_of(const uint8_t *id)
     if (all == 0)
         return UNKNOWN;
     switch (message) {
-    case TEST_CALL: case POINT_COUNT: case POINT_LIST: case COLUMN_QUERY:
-    case AXIS_STATUS: case POINT_WRITE: case POINT_CLEAR: case COLUMN_WRITE:
+    case TEST_CALL: case POINT_COUNT: case POINT_LIST: case FLAG_QUERY: case INTEGER_QUERY:
+    case COLUMN_QUERY: case AXIS_STATUS: case POINT_WRITE: case POINT_CLEAR: case FLAG_WRITE:
+    case INTEGER_WRITE: case COLUMN_WRITE:
         return message;
     default:
         return UNKNOWN;
@@ -367,45 +408,71 @@ static int points_follow(const struct asked *asked, uint8_t fitted, int *faulty)
     return at == asked->length;
 }
 
-/* 105, 106, then 107; 0 where none holds. */
-static uint16_t judge_run(const struct asked *asked, size_t first, size_t last, int faulty)
+/* 105, then 106; 0 where neither holds. */
+static uint16_t judge_numbers(const struct asked *asked, size_t first, size_t last)
 {
     if (asked->count == 0)
         return 105;
-    if (!is_held(asked->start, asked->count, first, last))
-        return 106;
-    return faulty ? 107 : 0;
+    return is_held(asked->start, asked->count, first, last) ? 0 : 106;
 }
 
 /* 103 to 107 of 209H, 244H and 246H: start 3, count 3, and for 244H the points. */
 static uint16_t judge_points(struct asked *asked, size_t held, uint8_t fitted)
 {
     int faulty = 0;
+    uint16_t number;
     if (asked->length < 6)
         return 103;
     asked->start = three(asked->content);
     asked->count = three(asked->content + 3);
     if (asked->message == POINT_WRITE ? !points_follow(asked, fitted, &faulty) : asked->length != 6)
         return 103;
-    return judge_run(asked, 1, held, faulty);
+    number = judge_numbers(asked, 1, held);
+    return number == 0 && faulty ? 107 : number;
 }
 
-/* 103 to 106 of 210H and 24EH: program 2, start 3, count 2, and for 24EH two for each column. */
-static uint16_t judge_columns(struct asked *asked)
+/* 103 to 106 of 20EH, 210H, 24CH and 24EH: program 2, start 3, count 2, in the writes more for each. */
+static uint16_t judge_run(struct asked *asked, size_t digits_each, size_t first, size_t last)
 {
     if (asked->length < 7)
         return 103;
     asked->start = three(asked->content + 2);
     asked->count = two(asked->content + 5);
-    if (asked->length != (asked->message == COLUMN_WRITE ? 7 + 2 * asked->count : 7))
+    if (asked->length != 7 + digits_each * asked->count)
         return 103;
     if (two(asked->content) != 0)
         return 104;
-    return judge_run(asked, FIRST_COLUMN, LAST_COLUMN, 0);
+    return judge_numbers(asked, first, last);
 }
 
-/* 101 to 107; 0 where none holds. `digits` is what test 7 found of the content. */
-static uint16_t judge(struct asked *asked, unsigned digits, size_t held, uint8_t fitted)
+/* 103 to 106 of 20DH: program 2, start 4, count 4. */
+static uint16_t judge_flags(struct asked *asked, size_t first, size_t last)
+{
+    if (asked->length != 10)
+        return 103;
+    asked->start = four(asked->content + 2);
+    asked->count = four(asked->content + 6);
+    if (two(asked->content) != 0)
+        return 104;
+    return judge_numbers(asked, first, last);
+}
+
+/* 103, 104, 106 and 108 of 24BH: program 2, flag 4, change type 1. */
+static uint16_t judge_flag(struct asked *asked, size_t first, size_t last)
+{
+    if (asked->length != 7)
+        return 103;
+    asked->start = four(asked->content + 2);
+    asked->count = 1;
+    if (two(asked->content) != 0)
+        return 104;
+    if (!is_held(asked->start, 1, first, last))
+        return 106;
+    return asked->content[6] == '0' || asked->content[6] == '1' ? 0 : 108;
+}
+
+/* 101 to 108; 0 where none holds. `digits` is what test 7 found of the content. */
+static uint16_t judge(struct asked *asked, unsigned digits, const struct areas *areas, uint8_t fitted)
 {
     if (asked->message == UNKNOWN)
         return 101;
@@ -419,10 +486,19 @@ static uint16_t judge(struct asked *asked, unsigned digits, size_t held, uint8_t
     case AXIS_STATUS:
         return asked->length == 2 ? 0 : 103;
     case COLUMN_QUERY:
+        return judge_run(asked, 0, FIRST_COLUMN, LAST_COLUMN);
     case COLUMN_WRITE:
-        return judge_columns(asked);
+        return judge_run(asked, 2, FIRST_COLUMN, LAST_COLUMN);
+    case INTEGER_QUERY:
+        return judge_run(asked, 0, areas->first_integer, areas->last_integer);
+    case INTEGER_WRITE:
+        return judge_run(asked, 2 * INTEGER, areas->first_integer, areas->last_integer);
+    case FLAG_QUERY:
+        return judge_flags(asked, areas->first_flag, areas->last_flag);
+    case FLAG_WRITE:
+        return judge_flag(asked, areas->first_flag, areas->last_flag);
     default:
-        return judge_points(asked, held, fitted);
+        return judge_points(asked, areas->held, fitted);
     }
 }
 
@@ -453,7 +529,7 @@ static void put_point(struct text *text, size_t number, const uint8_t *slot)
 static void put_point_list(struct text *text, const struct areas *areas, const struct asked *asked)
 {
     const uint8_t *limit = text->at - CONTENT_AT + LONGEST_REPLY - END;
-    const uint8_t *slot = areas->points + SLOT * (asked->start - 1);
+    const uint8_t *slot = place_of(areas, POINTS_TAG, asked->start);
     struct text front = *text;
     size_t number, listed = 0;
     text->at += 3;
@@ -468,6 +544,33 @@ static void put_point_list(struct text *text, const struct areas *areas, const s
     front.sum = 0;
     put_three(&front, (unsigned)listed);
     text->sum += front.sum;
+}
+
+/* Four flags as a digit's value, the first in bit 0. */
+static unsigned four_flags(const uint8_t *flags)
+{
+    return (unsigned)((flags[0] != 0) | (flags[1] != 0) << 1 | (flags[2] != 0) << 2 | (flags[3] != 0) << 3);
+}
+
+/* Two digits for each eight flags begun. The place and the sum are kept in registers on the way. */
+static void put_flags(struct text *text, const uint8_t *flags, size_t count)
+{
+    uint8_t *at = text->at, high, low;
+    unsigned sum = text->sum, rest = 0;
+    size_t i;
+    for (; count >= 8; count -= 8, flags += 8, at += 2) {
+        high = digit_of[four_flags(flags + 4)];
+        low = digit_of[four_flags(flags)];
+        at[0] = high;
+        at[1] = low;
+        sum += (unsigned)high + low;
+    }
+    text->at = at;
+    text->sum = sum;
+    for (i = 0; i < count; i++)
+        rest |= (unsigned)(flags[i] != 0) << i;
+    if (count > 0)
+        put_two(text, rest);
 }
 
 static void put_axes(struct text *text, const uint8_t *axes, unsigned pattern)
@@ -508,7 +611,7 @@ static const uint8_t *store_point(uint8_t *slot, const uint8_t *point)
 
 static void write_points(struct areas *areas, const struct asked *asked)
 {
-    uint8_t *slot = areas->points + SLOT * (asked->start - 1);
+    uint8_t *slot = place_of(areas, POINTS_TAG, asked->start);
     const uint8_t *point = asked->content + 6;
     size_t left;
     keep_old(areas, POINTS_TAG, (unsigned)asked->start, slot, SLOT * asked->count);
@@ -518,16 +621,30 @@ static void write_points(struct areas *areas, const struct asked *asked)
 
 static void clear_points(struct areas *areas, const struct asked *asked)
 {
-    uint8_t *slot = areas->points + SLOT * (asked->start - 1);
+    uint8_t *slot = place_of(areas, POINTS_TAG, asked->start);
     keep_old(areas, POINTS_TAG, (unsigned)asked->start, slot, SLOT * asked->count);
     memset(slot, 0, SLOT * asked->count);
 }
 
 static void write_columns(struct areas *areas, const struct asked *asked)
 {
-    uint8_t *place = areas->columns + (asked->start - FIRST_COLUMN);
+    uint8_t *place = place_of(areas, COLUMNS_TAG, asked->start);
     keep_old(areas, COLUMNS_TAG, (unsigned)asked->start, place, asked->count);
     take_bytes(place, asked->content + 7, asked->count);
+}
+
+static void write_integers(struct areas *areas, const struct asked *asked)
+{
+    uint8_t *place = place_of(areas, INTEGERS_TAG, asked->start);
+    keep_old(areas, INTEGERS_TAG, (unsigned)asked->start, place, INTEGER * asked->count);
+    take_bytes(place, asked->content + 7, INTEGER * asked->count);
+}
+
+static void write_flag(struct areas *areas, const struct asked *asked)
+{
+    uint8_t *place = place_of(areas, FLAGS_TAG, asked->start);
+    keep_old(areas, FLAGS_TAG, (unsigned)asked->start, place, 1);
+    *place = asked->content[6] == '1';
 }
 
 /* Does what is asked and puts the reply's content. */
@@ -546,7 +663,15 @@ static void carry_out(struct text *text, struct areas *areas, const struct asked
         break;
     case COLUMN_QUERY:
         put_same(text, asked->content, 7);
-        put_bytes(text, areas->columns + (asked->start - FIRST_COLUMN), asked->count);
+        put_bytes(text, place_of(areas, COLUMNS_TAG, asked->start), asked->count);
+        break;
+    case INTEGER_QUERY:
+        put_same(text, asked->content, 7);
+        put_bytes(text, place_of(areas, INTEGERS_TAG, asked->start), INTEGER * asked->count);
+        break;
+    case FLAG_QUERY:
+        put_same(text, asked->content, 10);
+        put_flags(text, place_of(areas, FLAGS_TAG, asked->start), asked->count);
         break;
     case AXIS_STATUS:
         put_axes(text, axes, two(asked->content) & (unsigned)fitted);
@@ -557,6 +682,13 @@ static void carry_out(struct text *text, struct areas *areas, const struct asked
         break;
     case POINT_CLEAR:
         clear_points(areas, asked);
+        break;
+    case INTEGER_WRITE:
+        put_same(text, asked->content, 7);
+        write_integers(areas, asked);
+        break;
+    case FLAG_WRITE:
+        write_flag(areas, asked);
         break;
     default:
         write_columns(areas, asked);
@@ -620,7 +752,7 @@ static uint16_t test_frame(const uint8_t *frame, size_t frame_length,
     return has_station(frame, station) ? 0 : 8;
 }
 
-/* What a frame that passed tests 1 to 8 asks; its fields are read when it is judged. */
+/* What a frame that passed all tests without a reply asks; its fields are read when it is judged. */
 static struct asked read_frame(const uint8_t *frame, size_t frame_length)
 {
     struct asked asked = {message_of(frame + ID_AT), frame + CONTENT_AT,
@@ -631,12 +763,16 @@ static struct asked read_frame(const uint8_t *frame, size_t frame_length)
 uint16_t plain_answer(const uint8_t *frame, size_t frame_length,
                       uint8_t *points, size_t points_length,
                       uint8_t *columns, size_t columns_length,
+                      uint8_t *integers, size_t integers_length,
+                      uint8_t *flags, size_t flags_length,
                       uint8_t *journal, size_t journal_length, size_t *used,
                       const uint8_t *axes, size_t axes_length,
                       uint8_t fitted, uint8_t station,
+                      uint16_t first_integer, uint16_t first_flag,
                       uint8_t *reply, size_t reply_area_length, size_t *reply_length)
 {
-    struct areas areas = {points, 0, columns, journal, journal_length, *used, 0};
+    struct areas areas = {points, 0, columns, integers, first_integer, 0, flags, first_flag, 0,
+                          journal, journal_length, *used, 0};
     struct text text = {reply, 0};
     struct asked asked;
     unsigned digits = 0;
@@ -644,13 +780,13 @@ uint16_t plain_answer(const uint8_t *frame, size_t frame_length,
     *reply_length = 0;
     if (reply_area_length < LONGEST_REPLY)
         return 1;
-    number = test_areas(&areas, points_length, columns_length);
+    number = test_areas(&areas, points_length, columns_length, integers_length, flags_length);
     if (number == 0)
         number = test_frame(frame, frame_length, axes, axes_length, fitted, station, &digits);
     if (number != 0)
         return number;
     asked = read_frame(frame, frame_length);
-    number = judge(&asked, digits, areas.held, fitted);
+    number = judge(&asked, digits, &areas, fitted);
     if (number != 0) {
         *reply_length = error_reply(reply, station, number);
         return number;
@@ -665,10 +801,14 @@ uint16_t plain_answer(const uint8_t *frame, size_t frame_length,
 
 uint16_t plain_step_back(uint8_t *points, size_t points_length,
                          uint8_t *columns, size_t columns_length,
-                         uint8_t *journal, size_t journal_length, size_t *used)
+                         uint8_t *integers, size_t integers_length,
+                         uint8_t *flags, size_t flags_length,
+                         uint8_t *journal, size_t journal_length, size_t *used,
+                         uint16_t first_integer, uint16_t first_flag)
 {
-    struct areas areas = {points, 0, columns, journal, journal_length, *used, 0};
-    uint16_t number = test_areas(&areas, points_length, columns_length);
+    struct areas areas = {points, 0, columns, integers, first_integer, 0, flags, first_flag, 0,
+                          journal, journal_length, *used, 0};
+    uint16_t number = test_areas(&areas, points_length, columns_length, integers_length, flags_length);
     if (number != 0)
         return number;
     if (areas.used == 0)

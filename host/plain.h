@@ -21,14 +21,20 @@ uint8_t plain_receive(const uint8_t *received, size_t received_length,
 uint16_t plain_answer(const uint8_t *frame, size_t frame_length,
                       uint8_t *points, size_t points_length,
                       uint8_t *columns, size_t columns_length,
+                      uint8_t *integers, size_t integers_length,
+                      uint8_t *flags, size_t flags_length,
                       uint8_t *journal, size_t journal_length, size_t *used,
                       const uint8_t *axes, size_t axes_length,
                       uint8_t fitted, uint8_t station,
+                      uint16_t first_integer, uint16_t first_flag,
                       uint8_t *reply, size_t reply_area_length, size_t *reply_length);
 
 uint16_t plain_step_back(uint8_t *points, size_t points_length,
                          uint8_t *columns, size_t columns_length,
-                         uint8_t *journal, size_t journal_length, size_t *used);
+                         uint8_t *integers, size_t integers_length,
+                         uint8_t *flags, size_t flags_length,
+                         uint8_t *journal, size_t journal_length, size_t *used,
+                         uint16_t first_integer, uint16_t first_flag);
 
 #ifdef __cplusplus
 }

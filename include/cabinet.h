@@ -4,8 +4,8 @@
  * Three calls: finding a frame in the received bytes (cabinet_receive), answering one frame
  * (cabinet_answer_frame) and the service panel's step back (cabinet_take_back). The last two are made
  * on a struct cabinet, which has all that they need by name; below them stand the archive's own calls
- * on numbers and byte areas, cabinet_answer and cabinet_step_back. What they promise is document 01's;
- * section names below are its.
+ * on numbers and byte areas, cabinet_answer and cabinet_step_back. What they promise is document 01's
+ * and, of integer variables and flags, document 02's (request a); section names below are document 01's.
  *
  * Link with libboard.a. C99 or later, or C++11 or later.
  *
@@ -18,14 +18,22 @@
  *              0.01 G), speed (2, in mm/sec) and eight positions (4 each, signed, in 0.001 mm), high
  *              byte first.
  *   columns    700 bytes: string columns 300 to 999 of program 00, one byte each.
- *   journal    40*N+300 to 65,536 bytes, with a used length beside it. Its used part is whole entries,
- *              oldest first: tag (50H points, 53H columns), a two-byte length of what follows, start
- *              number (2), the old bytes of what was named.
+ *   integers   400 bytes: 100 global integer variables, four bytes each, signed, high byte first. Their
+ *              numbers are first_integer to first_integer+99.
+ *   flags      300 bytes: 300 global flags, one byte each, on where it isn't 00; 24BH stores 00 or 01.
+ *              Their numbers are first_flag to first_flag+299.
+ *   journal    40*N+500 to 65,536 bytes, with a used length beside it. Its used part is whole entries,
+ *              oldest first: tag (50H points, 53H columns, 49H integers, 46H flags), a two-byte length of
+ *              what follows, start number (2), the old bytes of what was named. An entry names at most
+ *              what one write can: N points, 255 columns, 100 integers, 1 flag.
  *   axes       72 bytes: eight axis records of nine bytes, axis 1 first: status (1), sensor (1, 0 to
  *              15), error code (2, 0 to 4,095), encoder (1), position (4, signed), high byte first.
  *   reply      at least 1,024 bytes, where the reply is written.
  *
- * Fresh is all zero bytes in points, columns and journal, and used length 0.
+ * Fresh is all zero bytes in points, columns, integers, flags and journal, and used length 0.
+ *
+ * Two settings say where the numbers of integers and flags begin: first_integer, at most 3,996, since a
+ * frame has three digits for such a number, and first_flag, at most 65,236, since it has four.
  *
  *
  * OWNERSHIP
@@ -34,27 +42,30 @@
  *     pointer is kept and nothing is remembered between calls.
  *   - Every pointer points to as many bytes as its length says (or to one number) and is never null,
  *     not even where the length is 0.
- *   - An area or number that a call may write (points, columns, journal, reply, *used, *reply_length,
- *     *start, *length, *drop) overlaps no other one handed to the same call. The frame may be a part of
- *     the received bytes; it is no part of a struct cabinet.
+ *   - An area or number that a call may write (points, columns, integers, flags, journal, reply, *used,
+ *     *reply_length, *start, *length, *drop) overlaps no other one handed to the same call. The frame may
+ *     be a part of the received bytes; it is no part of a struct cabinet.
  *   - Lengths and bytes may be any: a wrong length, a spoiled byte or a damaged frame is refused as
  *     the table says, and nothing undefined is done.
- *   - For the step back to give back what was there: start fresh, use the same areas throughout, hand
- *     each call the used length the last one handed back, and let nothing else write them.
+ *   - For the step back to give back what was there: start fresh, use the same areas throughout, leave
+ *     first_integer and first_flag as they were at fresh, hand each call the used length the last one
+ *     handed back, and let nothing else write them.
  *   - Calls on different areas may run at the same time; calls on the same areas may not.
  *
  *
  * REFUSAL NUMBERS, IN THE ORDER TESTED
  *
  * An accepted call has number 0. Each number is given exactly when its condition holds and none
- * earlier does. The step back tests 2, 3, 4, then 9; answering a frame tests all but 9. Their names are
- * those of enum cabinet_refusal.
+ * earlier does. The step back tests 2, 3, 10, 4, then 9; answering a frame tests all but 9. Their names
+ * are those of enum cabinet_refusal.
  *
  *   No.  When                                                        Reply  Left
  *   ---  ----------------------------------------------------------  -----  ------------------------
  *     1  reply area under 1,024                                      none   nothing written
  *     2  points area not a multiple of 40 from 40 to 60,000          none   same
  *     3  columns area isn't 700                                      none   same
+ *    10  integers area isn't 400, flags area isn't 300,              none   same
+ *        first_integer+99 above FFFH, or first_flag+299 above FFFFH
  *     4  journal length wrong, used length beyond it, or used part   none   same
  *        not whole well-formed entries
  *     5  not eight axis records, or a sensor or error code too       none   same
@@ -68,9 +79,10 @@
  *   102  a content byte isn't a digit (not 200H)                     error  same
  *   103  content length isn't this message's                         error  same
  *   104  program number not 00                                       error  same
- *   105  count zero                                                  error  same
+ *   105  count zero (24BH has no count)                              error  same
  *   106  a number from start to start+count-1 not held               error  same
  *   107  in 244H, a pattern 00 or with an unfitted axis              error  same
+ *   108  in 24BH, a change type other than 0 and 1                   error  same
  *
  * An error reply is '&', station, the three digits of the number, SC, CR, LF.
  *
@@ -90,7 +102,8 @@
  *   static struct cabinet board = {
  *       .points = points, .points_length = sizeof points,
  *       .journal = journal, .journal_length = sizeof journal,
- *       .fitted = 0xFF, .station = 0x99                              // all else is zero: fresh
+ *       .fitted = 0xFF, .station = 0x99,
+ *       .first_integer = 200, .first_flag = 600                      // all else is zero: fresh
  *   };
  *
  *   int main(void)
@@ -133,16 +146,23 @@ extern "C" {
  *   #error "an older cabinet.h"
  *   #endif
  * The header and the archive belong together: take both from the same state of the repository.
+ *
+ * Version 2: integers, flags and their settings, in cabinet_answer, cabinet_step_back and struct cabinet;
+ * messages 20DH, 20EH, 24BH and 24CH, refused 101 before; refusals 10 and 108; a least journal of 40*N+500
+ * bytes, 40*N+300 before.
  */
-#define CABINET_VERSION 1
+#define CABINET_VERSION 2
 
-/* Lengths in bytes ("The areas", "Frame"), and how many points there may be. */
+/* Lengths in bytes ("The areas", "Frame"), and how many there are: points at most, integers, flags. */
 #define CABINET_SLOT_BYTES 40
 #define CABINET_MOST_POINTS 1500
 #define CABINET_POINTS_BYTES(points_held) (CABINET_SLOT_BYTES * (points_held))
 #define CABINET_COLUMNS_BYTES 700
-#define CABINET_INTEGERS_BYTES 400
-#define CABINET_FLAGS_BYTES 300
+#define CABINET_INTEGER_BYTES 4
+#define CABINET_INTEGERS_HELD 100
+#define CABINET_INTEGERS_BYTES (CABINET_INTEGER_BYTES * CABINET_INTEGERS_HELD)
+#define CABINET_FLAGS_HELD 300
+#define CABINET_FLAGS_BYTES CABINET_FLAGS_HELD
 #define CABINET_LEAST_JOURNAL_BYTES(points_held) (CABINET_POINTS_BYTES(points_held) + 500)
 #define CABINET_MOST_JOURNAL_BYTES 65536
 #define CABINET_RECORD_BYTES 9
@@ -160,12 +180,13 @@ enum cabinet_found {
     CABINET_TOO_LONG = 3 /* no CR LF in the 1,023 bytes from the '!' on */
 };
 
-/* What the other calls answer: the table "Refusal numbers" above. */
+/* What the other calls answer, in the order tested: the table "Refusal numbers" above. */
 enum cabinet_refusal {
     CABINET_ACCEPTED = 0,
     CABINET_REFUSED_REPLY_AREA = 1,
     CABINET_REFUSED_POINTS_AREA = 2,
     CABINET_REFUSED_COLUMNS_AREA = 3,
+    CABINET_REFUSED_VARIABLES = 10,
     CABINET_REFUSED_JOURNAL = 4,
     CABINET_REFUSED_AXES = 5,
     CABINET_REFUSED_FRAME = 6,
@@ -178,7 +199,8 @@ enum cabinet_refusal {
     CABINET_REFUSED_PROGRAM = 104,
     CABINET_REFUSED_COUNT = 105,
     CABINET_REFUSED_NOT_HELD = 106,
-    CABINET_REFUSED_PATTERN = 107
+    CABINET_REFUSED_PATTERN = 107,
+    CABINET_REFUSED_CHANGE_TYPE = 108
 };
 
 /*
@@ -208,18 +230,22 @@ uint8_t cabinet_receive(const uint8_t *received, size_t received_length,
  *   frame, frame_length           one whole frame, '!' to CR LF; not written
  *   points, points_length         the points area; written by 244H and 246H
  *   columns, columns_length       the columns area; written by 24EH
- *   journal, journal_length       the journal; each accepted 244H, 246H or 24EH adds one entry, after
- *                                 dropping oldest entries, and no more than needed, until it fits;
- *                                 bytes beyond the used length are then 00
+ *   integers, integers_length     the integers area; written by 24CH
+ *   flags, flags_length           the flags area; written by 24BH
+ *   journal, journal_length       the journal; each accepted 244H, 246H, 24BH, 24CH or 24EH adds one
+ *                                 entry, after dropping oldest entries, and no more than needed, until
+ *                                 it fits; bytes beyond the used length are then 00
  *   used            in and out: the journal's used length; a refused call and a query leave it
  *   axes, axes_length             the eight axis records; not written
  *   fitted          the fitted axes, bit 0 for axis 1; not 0
  *   station         the board's station, two digits in a frame (99H for "99")
+ *   first_integer   the number of the first integer variable
+ *   first_flag      the number of the first flag
  *   reply, reply_area_length      the reply area; bytes beyond the reply stay
  *   reply_length    out: how many bytes of the reply area are the reply; 0 where there is none
  *
- * Returns CABINET_ACCEPTED, else the refusal number (1 to 8: no reply; 101 to 107: the ten bytes of an
- * error reply).
+ * Returns CABINET_ACCEPTED, else the refusal number (1 to 8 and 10: no reply; 101 to 108: the ten bytes of
+ * an error reply).
  *
  * Replies to accepted frames, each '#', station, message ID, content, SC, CR, LF, and the content's digits:
  *
@@ -227,11 +253,17 @@ uint8_t cabinet_receive(const uint8_t *received, size_t received_length,
  *   208H  number of effective points  3                                                    13
  *   209H  effective point query       number listed 3; for each: number 3, pattern 2,      13 to 1,024
  *                                     acceleration, deceleration, speed 4, 8 for each axis
+ *   20DH  flag query                  program 2, start 4, count 4, 2 for each eight flags  22 to 96
+ *                                     begun: the first of the eight in bit 0, bits beyond
+ *                                     the count 0
+ *   20EH  integer variable query      program 2, start 3, count 2, 8 for each integer      25 to 817
  *   210H  string query                program 2, start 3, count 2, 2 for each column       19 to 527
  *   212H  axis status                 pattern 2; for each axis: status 2, sensor 1,        12 to 140
  *                                     error code 3, encoder 2, position 8
  *   244H  point range write           start 3, count 3                                     16
  *   246H  point clear                 none                                                 10
+ *   24BH  flag status change          none                                                 10
+ *   24CH  integer variable change     program 2, start 3, count 2                          17
  *   24EH  string change               none                                                 10
  */
 uint16_t cabinet_answer(const uint8_t *frame, size_t frame_length,
@@ -249,14 +281,18 @@ uint16_t cabinet_answer(const uint8_t *frame, size_t frame_length,
  * Steps back: takes away the latest accepted write that the journal still holds. Easier to call:
  * cabinet_take_back below.
  *
- *   points, points_length         the points area  } the last entry's old bytes
- *   columns, columns_length       the columns area } are put back into one of them
+ *   points, points_length         the points area   }
+ *   columns, columns_length       the columns area  } the last entry's old bytes
+ *   integers, integers_length     the integers area } are put back into one of them
+ *   flags, flags_length           the flags area    }
  *   journal, journal_length       the journal; loses its last entry, and bytes beyond the used length
  *                                 are then 00
  *   used            in and out: the journal's used length; a refused call leaves it
+ *   first_integer   the number of the first integer variable
+ *   first_flag      the number of the first flag
  *
- * Returns CABINET_ACCEPTED where a write was taken back, else the refusal number: 2, 3, 4, or 9 where no
- * write is left. There is no reply.
+ * Returns CABINET_ACCEPTED where a write was taken back, else the refusal number: 2, 3, 10, 4, or 9 where
+ * no write is left. There is no reply.
  */
 uint16_t cabinet_step_back(uint8_t *points, size_t points_length,
                            uint8_t *columns, size_t columns_length,
@@ -267,15 +303,16 @@ uint16_t cabinet_step_back(uint8_t *points, size_t points_length,
 
 /*
  * A board: all that the calls below need, by name. Areas whose length is the host's choice are lent;
- * those of one fixed length are inside, so refusals 1 and 3 don't come.
+ * those of one fixed length are inside, so refusals 1 and 3 don't come, and 10 only for the settings.
  *
  * Start from all zero and set the lent areas and the settings, by name. In C by a designated
  * initialiser, as the loop above does; in C++:
  *   struct cabinet board = {};
  *   board.points = points;
  *   board.points_length = sizeof points;
- * Never by position: a later version may put a field anywhere. In a field added later zero is fresh, or
- * the rule as it was before, so that a host which doesn't know the field stays as it is.
+ * Never by position: a later version may put a field anywhere. In a field added later zero is fresh, a
+ * setting that is allowed, or the rule as it was before, so that a host which doesn't know the field stays
+ * as it is.
  */
 struct cabinet {
     /* lent areas ("The areas", "Ownership" above): set before the first call */
@@ -285,14 +322,18 @@ struct cabinet {
     size_t journal_length;
 
     /* settings */
-    uint8_t fitted;  /* the fitted axes, bit 0 for axis 1; not 0 */
-    uint8_t station; /* two digits in a frame (0x99 for "99") */
+    uint8_t fitted;         /* the fitted axes, bit 0 for axis 1; not 0 */
+    uint8_t station;        /* two digits in a frame (0x99 for "99") */
+    uint16_t first_integer; /* number of the first integer variable, 0 to 3,996 */
+    uint16_t first_flag;    /* number of the first flag, 0 to 65,236 */
 
     /* the axis records as they are now: the host writes them before each frame */
     uint8_t axes[CABINET_AXES_BYTES];
 
     /* kept from call to call, written by the calls alone */
     uint8_t columns[CABINET_COLUMNS_BYTES];
+    uint8_t integers[CABINET_INTEGERS_BYTES];
+    uint8_t flags[CABINET_FLAGS_BYTES];
     size_t used; /* the journal's used length */
 
     /* what the last call answered */
@@ -307,12 +348,12 @@ struct cabinet {
 static inline uint16_t cabinet_answer_frame(struct cabinet *board,
                                             const uint8_t *frame, size_t frame_length)
 {
-    uint8_t integers[CABINET_INTEGERS_BYTES] = {0}, flags[CABINET_FLAGS_BYTES] = {0}; /* until the struct has them */
     return cabinet_answer(frame, frame_length, board->points, board->points_length,
                           board->columns, sizeof board->columns,
-                          integers, sizeof integers, flags, sizeof flags,
+                          board->integers, sizeof board->integers, board->flags, sizeof board->flags,
                           board->journal, board->journal_length, &board->used,
-                          board->axes, sizeof board->axes, board->fitted, board->station, 0, 0,
+                          board->axes, sizeof board->axes, board->fitted, board->station,
+                          board->first_integer, board->first_flag,
                           board->reply, sizeof board->reply, &board->reply_length);
 }
 
@@ -323,12 +364,12 @@ static inline uint16_t cabinet_answer_frame(struct cabinet *board,
  */
 static inline uint16_t cabinet_take_back(struct cabinet *board)
 {
-    uint8_t integers[CABINET_INTEGERS_BYTES] = {0}, flags[CABINET_FLAGS_BYTES] = {0}; /* until the struct has them */
     board->reply_length = 0;
     return cabinet_step_back(board->points, board->points_length,
                              board->columns, sizeof board->columns,
-                             integers, sizeof integers, flags, sizeof flags,
-                             board->journal, board->journal_length, &board->used, 0, 0);
+                             board->integers, sizeof board->integers, board->flags, sizeof board->flags,
+                             board->journal, board->journal_length, &board->used,
+                             board->first_integer, board->first_flag);
 }
 
 #ifdef __cplusplus
