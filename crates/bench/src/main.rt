@@ -6,6 +6,7 @@ use calls::Settings;
 use finder::Found;
 use finder::find;
 use finder::frame_in;
+use kinds::Firsts;
 use libc::STDIN_FILENO;
 use libc::STDOUT_FILENO;
 use link::answer;
@@ -25,11 +26,13 @@ fn say(reply: &[u8], length: usize) {
     }
 }
 
-// One frame answered, with station 99H, all eight axes and zero records; the journal's used length.
+// One frame answered, with station 99H, all eight axes and zero records, integers from 200 and flags from 600 on; the journal's used length.
 fn serve(
     frame: &[u8],
     points: &mut [u8],
     columns: &mut [u8],
+    integers: &mut [u8],
+    flags: &mut [u8],
     journal: &mut [u8],
     used: usize,
 ) -> usize {
@@ -40,12 +43,19 @@ fn serve(
         fitted: 0xFF,
     };
     let kept = Kept { used };
+    let firsts = Firsts {
+        integer: 200,
+        flag: 600,
+    };
     let answered = answer(
         frame,
         points,
         columns,
+        integers,
+        flags,
         journal,
         kept,
+        firsts,
         read_axes(&zeros),
         settings,
         &mut reply,
@@ -90,6 +100,8 @@ fn go_on(
     have: usize,
     points: &mut [u8],
     columns: &mut [u8],
+    integers: &mut [u8],
+    flags: &mut [u8],
     journal: &mut [u8],
     used: usize,
 ) -> Turn
@@ -103,7 +115,7 @@ fn go_on(
             used: end,
         } => {
             let frame = frame_in(&line[..have], found);
-            let left = serve(frame, points, columns, journal, used);
+            let left = serve(frame, points, columns, integers, flags, journal, used);
             move_run(&mut *line, end, have - end);
             Turn::On {
                 have: have - end,
@@ -122,7 +134,14 @@ fn go_on(
     }
 }
 
-fn all(line: &mut [u8], points: &mut [u8], columns: &mut [u8], journal: &mut [u8]) {
+fn all(
+    line: &mut [u8],
+    points: &mut [u8],
+    columns: &mut [u8],
+    integers: &mut [u8],
+    flags: &mut [u8],
+    journal: &mut [u8],
+) {
     let mut turns = u64::MAX;
     let mut have: usize = 0;
     let mut used: usize = 0;
@@ -132,6 +151,8 @@ fn all(line: &mut [u8], points: &mut [u8], columns: &mut [u8], journal: &mut [u8
             have,
             &mut *points,
             &mut *columns,
+            &mut *integers,
+            &mut *flags,
             &mut *journal,
             used,
         ) {
@@ -151,6 +172,15 @@ fn main() {
     let mut line = [0u8; 2048];
     let mut points = [0u8; 20000];
     let mut columns = [0u8; 700];
+    let mut integers = [0u8; 400];
+    let mut flags = [0u8; 300];
     let mut journal = [0u8; 32768];
-    all(&mut line, &mut points, &mut columns, &mut journal);
+    all(
+        &mut line,
+        &mut points,
+        &mut columns,
+        &mut integers,
+        &mut flags,
+        &mut journal,
+    );
 }

@@ -4,6 +4,7 @@ use mathlib.Core.Path.{_≡_}
 use Rattle.finder.specs.declared.Found.{Found}
 use Rattle.finder.specs.declared.Found.the-variants.{Frame, Nothing, Wait, TooLong}
 use Rattle.finder.specs.Find.{dropOf}
+use Rattle.kinds.specs.declared.Firsts.{Firsts}
 use Rattle.calls.specs.declared.Settings.{Settings}
 use Rattle.calls.specs.declared.Kept.{Kept}
 use Rattle.link.specs.declared.Answered.{Answered}
@@ -42,6 +43,10 @@ settingsOf fitted station = record { station = station; fitted = fitted }
 
 abbrev pub keptOf : ℕ → Kept
 keptOf used = record { used = used }
+
+-- the first numbers (02, a)
+abbrev pub firstsOf : ℕ → ℕ → Firsts
+firstsOf integer flag = record { integer = integer; flag = flag }
 
 abbrev pub answeredOf : ℕ → ℕ → ℕ → Answered
 answeredOf number length used = record { number = number; length = length; kept = keptOf used }

@@ -5,13 +5,14 @@ use calls::Settings;
 use finder::Found;
 use finder::find;
 use finder::frame_in;
+use kinds::Firsts;
 use link::answer;
 use link::step_back;
 ghost use Rattle.finder.specs.Find.{findIn};
 ghost use Rattle.axes.specs.Axes.{axesIn};
 ghost use Rattle.calls.specs.Calls.{areasOf, callOf};
 ghost use Rattle.link.specs.Contract.{Answers, StepsBack};
-ghost use Rattle.board.specs.Calls.{Receives, settingsOf, keptOf, answeredOf, backedOf};
+ghost use Rattle.board.specs.Calls.{Receives, settingsOf, keptOf, firstsOf, answeredOf, backedOf};
 
 // 0 a frame, 1 nothing, 2 wait, 3 too long.
 #[no_mangle]
@@ -54,28 +55,41 @@ pub extern "C" fn cabinet_answer(
     frame: &[u8],
     points: &mut [u8],
     columns: &mut [u8],
+    integers: &mut [u8],
+    flags: &mut [u8],
     journal: &mut [u8],
     used: &mut usize,
     axes: &[u8],
     fitted: u8,
     station: u8,
+    first_integer: u16,
+    first_flag: u16,
     reply: &mut [u8],
     length: &mut usize,
 ) -> u16
     ensures { λ r. ⌜ Answers
         (callOf (now (frame .entry)) (axesIn (now (axes .entry))) (settingsOf fitted station) (now (reply .entry))
-        (areasOf (now (points .entry)) (now (columns .entry)) (now (journal .entry)) (keptOf (now (used .entry)))))
+        (areasOf (now (points .entry)) (now (columns .entry)) (now (integers .entry)) (now (flags .entry)) (now (journal .entry))
+        (keptOf (now (used .entry))) (firstsOf «first_integer» «first_flag»)))
         (answeredOf r (now (length .exit)) (now (used .exit)))
-        (areasOf (now (points .exit)) (now (columns .exit)) (now (journal .exit)) (keptOf (now (used .exit)))) (now (reply .exit)) ⌝ }
+        (areasOf (now (points .exit)) (now (columns .exit)) (now (integers .exit)) (now (flags .exit)) (now (journal .exit))
+        (keptOf (now (used .exit))) (firstsOf «first_integer» «first_flag»)) (now (reply .exit)) ⌝ }
 {
     let settings = Settings { station, fitted };
     let kept = Kept { used: *used };
+    let firsts = Firsts {
+        integer: first_integer,
+        flag: first_flag,
+    };
     let answered = answer(
         frame,
         points,
         columns,
+        integers,
+        flags,
         journal,
         kept,
+        firsts,
         read_axes(axes),
         settings,
         reply,
@@ -91,16 +105,26 @@ pub extern "C" fn cabinet_answer(
 pub extern "C" fn cabinet_step_back(
     points: &mut [u8],
     columns: &mut [u8],
+    integers: &mut [u8],
+    flags: &mut [u8],
     journal: &mut [u8],
     used: &mut usize,
+    first_integer: u16,
+    first_flag: u16,
 ) -> u16
     ensures { λ r. ⌜ StepsBack
-        (areasOf (now (points .entry)) (now (columns .entry)) (now (journal .entry)) (keptOf (now (used .entry))))
+        (areasOf (now (points .entry)) (now (columns .entry)) (now (integers .entry)) (now (flags .entry)) (now (journal .entry))
+        (keptOf (now (used .entry))) (firstsOf «first_integer» «first_flag»))
         (backedOf r (now (used .exit)))
-        (areasOf (now (points .exit)) (now (columns .exit)) (now (journal .exit)) (keptOf (now (used .exit)))) ⌝ }
+        (areasOf (now (points .exit)) (now (columns .exit)) (now (integers .exit)) (now (flags .exit)) (now (journal .exit))
+        (keptOf (now (used .exit))) (firstsOf «first_integer» «first_flag»)) ⌝ }
 {
     let kept = Kept { used: *used };
-    let back = step_back(points, columns, journal, kept);
+    let firsts = Firsts {
+        integer: first_integer,
+        flag: first_flag,
+    };
+    let back = step_back(points, columns, integers, flags, journal, kept, firsts);
     let after = back.kept;
     *used = after.used;
     back.number

@@ -20,8 +20,14 @@ same-length-3 c = search needs
 same-length-4 : tie.Need-same-length-4
 same-length-4 c = search needs
 
+same-length-5 : tie.Need-same-length-5
+same-length-5 c = search needs
+
+same-length-6 : tie.Need-same-length-6
+same-length-6 c = search needs
+
 returns : tie.Need-returns
-returns c = rw (c .before .before .before .before .before .before .before .before .before .before .before .read-axes .ensures) at (c .before .before .before .before .before .before .before .before .before .answer .ensures)
+returns c = rw (c .before .before .before .before .before .before .before .before .before .before .before .before .before .before .before .read-axes .ensures) at (c .before .before .before .before .before .before .before .before .before .before .before .before .before .answer .ensures)
 
 pub cabinet-answer-spec : {M : Type 1} → statement M
 cabinet-answer-spec =
@@ -33,4 +39,6 @@ cabinet-answer-spec =
     same-length-2
     same-length-3
     same-length-4
+    same-length-5
+    same-length-6
     returns)
