@@ -1,11 +1,11 @@
 -- What an accepted frame tells, and that what is asked over areas that no test refuses is heard.
 use Prim.Native.Nat.{ℕ, _+_, _≤_, _<_, _^_}
 use mathlib.Core.Path.{_≡_, refl, sym, ap, ap₂, _∙_, subst}
-use mathlib.Core.Bool.{Bool, true, false}
+use mathlib.Core.Bool.{Bool, true, false, cond}
 use mathlib.Core.List.{List, _++_}
 use native.Mathlib.Nat.{one-le-pow}
 use native.Mathlib.Omega.{arith}
-use lib.Dec.{leb}
+use lib.Dec.{eqb, leb}
 use lib.ListN.{length, take, drop, length-append, length-drop}
 use lib.Seq.{length-take-le, take-all, take-take, take-at, drop-at, drop-drop}
 use borrow.Author.Tests.{le-ltb, le-leb, eq-eqb, ne-eqb}
@@ -150,7 +150,7 @@ module _ (id id′ program start count tag : ℕ) (follows : Follows) (does does
     same-start = ap numberOf (same-part start program (fieldsOf sent) s (omega arith))
 
     pub same-count : countIn query (take (fieldsOf sent) s) ≡ countIn sent s
-    same-count = ap numberOf (same-part count (program + start) (fieldsOf sent) s (omega arith))
+    same-count = ap (λ (x : List ℕ). cond (eqb count 0) 1 (numberOf x)) (same-part count (program + start) (fieldsOf sent) s (omega arith))
 
   -- such a query passes the tests that the message passed
   pub query-right : (h : Held) (s : Sent) → Ordered h sent s → anyBytes follows ≡ false → (fitted : ℕ) → Right h fitted query (take (fieldsOf sent) (content s))
@@ -166,10 +166,12 @@ module _ (id id′ program start count tag : ℕ) (follows : Follows) (does does
         some = rw (same-count t) (r .some);
         held-all = rw (same-start t, same-count t) (r .held-all);
         pattern = refl;
+        type = refl;
       }
 
 -- a query whose fields are written out: program number 00, a start number and a count
-module _ (id program start count tag : ℕ) (does : Action) (repeats : Bool) (number many : ℕ) (fits : number < 16 ^ start) (few : many < 16 ^ count) where
+module _ (id program start count tag : ℕ) (does : Action) (repeats : Bool) (number many : ℕ) (fits : number < 16 ^ start) (few : many < 16 ^ count)
+    (counts : 1 ≤ count) where
   abbrev asks : Message
   asks = row id program start count tag Nothing does repeats
 
@@ -198,10 +200,11 @@ module _ (id program start count tag : ℕ) (does : Action) (repeats : Bool) (nu
 
   pub count-said : countIn asks fields ≡ many
   count-said =
-      ap (λ (s : List ℕ). numberOf (take count s))
+      rw (ne-eqb count 0 (λ e. omega (arith, counts, e)))
+      (ap (λ (s : List ℕ). numberOf (take count s))
       (sym (drop-drop start program fields) ∙ ap (drop start) behind-program ∙ drop-at (digitsOf start number) (digitsOf count many) start start-long)
       ∙ ap numberOf (take-all count (digitsOf count many) (omega (arith, count-long)))
-      ∙ inverse count .value-of-digits many few
+      ∙ inverse count .value-of-digits many few)
 
   program-said : programIn asks fields ≡ 0
   program-said =
@@ -227,4 +230,5 @@ module _ (id program start count tag : ℕ) (does : Action) (repeats : Bool) (nu
         some = rw (count-said, ne-eqb many 0 (λ e. omega (arith, e))) (and-false (leb 1 count));
         held-all = rw (start-said, count-said, all) (and-false (leb 1 start));
         pattern = refl;
+        type = refl;
       }

@@ -1,20 +1,20 @@
--- 24EH, then 210H: the very digits that were sent; so for a run of any kind.
-use Prim.Native.Nat.{ℕ, _+_, _-_, _*_, _≤_}
-use mathlib.Core.Path.{_≡_, refl, sym, ap, ap₂, _∙_}
+-- 24EH, then 210H, and 24CH, then 20EH: the very digits that were sent; so for a run of any kind.
+use Prim.Native.Nat.{ℕ, _+_, _-_, _*_, _≤_, _<_, _^_}
+use mathlib.Core.Path.{_≡_, refl, sym, ap, ap₂, _∙_, subst}
 use mathlib.Core.Bool.{Bool, true}
 use mathlib.Core.List.{List, _++_, append-assoc}
 use native.Mathlib.Omega.{arith}
 use lib.ListN.{length, take, drop, length-take, length-drop, length-append, take-append-drop}
-use lib.Seq.{length-take-le, take-add, take-all}
-use borrow.Author.Tests.{eqb-true}
+use lib.Seq.{length-take-le, take-add, take-all, take-at, drop-at}
+use borrow.Author.Tests.{eqb-true, ne-eqb}
 use Rattle.digits.specs.Digits.{byteOf, digitsOf, allDigits, numberOf}
 use Rattle.digits.specs.Text.{text}
 use Rattle.digits.proofs.Inverse.{inverse}
 use Rattle.digits.proofs.Bools.{was-not}
 use Rattle.kinds.specs.declared.Kind.{Kind}
 use Rattle.kinds.specs.declared.Held.{Held}
-use Rattle.kinds.specs.Kinds.{columnsTag, columnsOf, kindOf, heldIn, holds, runOf}
-use Rattle.kinds.proofs.Known.{kind-columns, within, run-length}
+use Rattle.kinds.specs.Kinds.{Sound, columnsTag, integersTag, kindOf, heldIn, holds, runOf}
+use Rattle.kinds.proofs.Known.{kind-columns, kind-integers, within, run-length}
 use Rattle.pairs.specs.Pairs.{bytesIn, digitsIn}
 use Rattle.pairs.proofs.Paired.{length-digitsIn}
 use Rattle.pairs.proofs.Promised.{every-digit}
@@ -22,17 +22,21 @@ use Rattle.points.proofs.Parts.{all-take, all-drop, all-part}
 use Rattle.table.specs.declared.Follows.the-variants.{Nothing, RunBytes}
 use Rattle.table.specs.declared.Action.the-variants.{ReadRun, ChangeRun}
 use Rattle.table.specs.declared.Message.{Message}
+use Rattle.table.specs.declared.Named.the-variants.{Known}
 use Rattle.table.specs.Table.{row, fieldsOf, startIn, countIn}
 use Rattle.queries.specs.Replies.{headOf, runText}
 use Rattle.calls.specs.Calls.{Areas, Sent, callOf, lengthsOf, areaIn}
+use Rattle.messages.proofs.Judged.{Right}
+use Rattle.refusals.proofs.Tested.{sound}
 use Rattle.link.specs.Answer.{saidBy}
+use Rattle.link.proofs.Carrying.{areas-long}
 use Rattle.demands.specs.History.{ours}
-use Rattle.demands.specs.Reading.{content, startOf, countOf, restOf, untouched, Says, asksColumns, digitsFrom, ColumnsSaid, CodesRead}
-use Rattle.demands.proofs.Commands.{reading, changing, named}
+use Rattle.demands.specs.Reading.{content, startOf, countOf, restOf, untouched, Says, asksRun, digitsFrom, kindIn, RunSaid, RunRead, RunTold}
+use Rattle.demands.proofs.Commands.{messageNamed, named}
 use Rattle.demands.proofs.Asking.{Open, says, same-start, same-count, query-right, start-said, count-said, asks-right}
 use Rattle.demands.proofs.Parts.{digits-part}
 use Rattle.demands.proofs.Runs.{run-in}
-use Rattle.demands.proofs.Kept.{Standing, right-here}
+use Rattle.demands.proofs.Kept.{Standing}
 
 -- fields that a reply repeats are the very digits that were sent
 pub fields-back : (program start count : ℕ) (s : List ℕ) → allDigits s ≡ true → program + start + count ≤ length s → numberOf (take program s) ≡ 0
@@ -89,12 +93,13 @@ module _ (id id′ program start count tag : ℕ) (repeats : Bool) where
     said-run number many x frame = ap (λ (y : Held). runText read (kindOf y tag) number many (areaIn tag a)) (t .is-held)
 
     -- a query of the same run says the ID and the very content that was sent
-    pub said-back : untouched tag (startOf change s) (countOf change s) later ≡ true → (x : Sent) (frame : List ℕ)
+    pub said-back : 1 ≤ count → untouched tag (startOf change s) (countOf change s) later ≡ true → (x : Sent) (frame : List ℕ)
         → saidBy ReadRun (callOf frame (x .axes) (x .settings) (x .reply) a) read (startIn read (take (fieldsOf change) (content s)))
         (countIn read (take (fieldsOf change) (content s)))
         ≡ digitsOf 3 id′ ++ content s
-    said-back u x frame =
+    said-back some u x frame =
         let c = content s in
+        let n : countOf change s ≡ numberOf (take count (drop (program + start) c)) = rw (ne-eqb count 0 (λ e. omega (arith, some, e))) in
         let o = t .ordered in
         said-run (startIn read (take (fieldsOf change) c)) (countIn read (take (fieldsOf change) c)) x frame
         ∙ ap₂ (λ (n m : ℕ). headOf read n m ++ digitsIn (runOf k n m (areaIn tag a)))
@@ -102,59 +107,99 @@ module _ (id id′ program start count tag : ℕ) (repeats : Bool) where
         (same-count id id′ program start count tag RunBytes ChangeRun ReadRun repeats true c)
         ∙ ap (λ (y : List ℕ). headOf read (startOf change s) (countOf change s) ++ y) (all-back u)
         ∙ append-assoc (digitsOf 3 id′) (digitsOf program 0 ++ (digitsOf start (startOf change s) ++ digitsOf count (countOf change s))) (drop (fieldsOf change) c)
+        ∙ ap (λ (y : ℕ). digitsOf 3 id′ ++ ((digitsOf program 0 ++ (digitsOf start (startOf change s) ++ digitsOf count y)) ++ drop (fieldsOf change) c)) n
         ∙ ap (λ (y : List ℕ). digitsOf 3 id′ ++ (y ++ drop (fieldsOf change) c))
         (fields-back program start count c (o .assured .digits refl) (o .assured .fields) (eqb-true _ _ (was-not (o .right .program))))
         ∙ ap (λ (y : List ℕ). digitsOf 3 id′ ++ y) (take-append-drop (fieldsOf change) c)
 
--- a 210H of any columns that are held says two digits for each
-pub reads-any : (a : Areas) → Open a → (start count : ℕ) → 1 ≤ count → count ≤ 255 → holds columnsOf start count ≡ true
-    → Says ours a (asksColumns start count) (asksColumns start count ++ digitsIn (runOf columnsOf start count (a .columns)))
+-- the query of a kind's runs: as the table has it, and the numbers of its kind fit into its fields
+pub record Query (name : List ℕ) (id tag : ℕ) : Type 0 where
+  pub is-named : messageNamed name ≡ Known (row id 2 3 2 tag Nothing ReadRun true)
+  pub is-written : digitsOf 3 id ≡ name
+  pub narrow : (h : Held) → Sound h → kindOf h tag .first + kindOf h tag .held ≤ 4096
+
+pub of-columns : Query (text "210") 0x210 columnsTag
 unfolding byteOf
-reads-any a o start count some few all =
-    let h : Held = heldIn (lengthsOf a) in
-    let w = within columnsOf start count all in
-    let n = start-said 0x210 2 3 2 columnsTag ReadRun true start count (omega (arith, w .1)) (omega arith) in
-    let m = count-said 0x210 2 3 2 columnsTag ReadRun true start count (omega (arith, w .1)) (omega arith) in
-    says a (asksColumns start count) (asksColumns start count ++ digitsIn (runOf columnsOf start count (a .columns))) reading o (omega arith)
-    (simp length-append (omega (arith, inverse 3 .as-many start, inverse 2 .as-many count)))
-    (named .2)
-    (asks-right 0x210 2 3 2 columnsTag ReadRun true start count (omega (arith, w .1)) (omega arith) h some (rw (kind-columns h) all))
-    (λ x frame.
-    ap₂ (λ (p q : ℕ). headOf reading p q ++ digitsIn (runOf (kindOf h columnsTag) p q (a .columns))) n m
-    ∙ ap (λ (y : Kind). headOf reading start count ++ digitsIn (runOf y start count (a .columns))) (kind-columns h))
+of-columns = record { is-named = named .2; is-written = refl; narrow = λ h s. rw (kind-columns h) (omega arith) }
 
-module _ {h : Held} {a : Areas} {s : Sent} {later : List Sent} (t : Standing h a changing s later) where
-  whole : untouched columnsTag (startOf changing s) (countOf changing s) later ≡ true → Says ours a (text "210" ++ take 7 (content s)) (text "210" ++ content s)
+pub of-integers : Query (text "20E") 0x20E integersTag
+unfolding byteOf
+of-integers = record { is-named = named .3; is-written = refl; narrow = λ h s. rw (kind-integers h) (omega (arith, s .integers)) }
+
+module _ {name : List ℕ} {id tag : ℕ} (q : Query name id tag) where
+  three : length name ≡ 3
+  three = ap length (sym (q .is-written)) ∙ inverse 3 .as-many id
+
+  -- what is asked by it
+  asks-it : (a : Areas) (fields said : List ℕ) → Open a → length fields ≤ 7
+      → ((fitted : ℕ) → Right (heldIn (lengthsOf a)) fitted (row id 2 3 2 tag Nothing ReadRun true) fields)
+      → ((h : Sent) (frame : List ℕ)
+      → saidBy ReadRun (callOf frame (h .axes) (h .settings) (h .reply) a) (row id 2 3 2 tag Nothing ReadRun true)
+      (startIn (row id 2 3 2 tag Nothing ReadRun true) fields)
+      (countIn (row id 2 3 2 tag Nothing ReadRun true) fields)
+      ≡ said)
+      → Says ours a (name ++ fields) said
+  asks-it a fields said o l r t =
+      let m = row id 2 3 2 tag Nothing ReadRun true in
+      let d : drop 3 (name ++ fields) ≡ fields = drop-at name fields 3 three in
+      let n = length-append name fields in
+      says a (name ++ fields) said m o (omega (arith, n, three)) (omega (arith, n, three, l)) (ap messageNamed (take-at name fields 3 three) ∙ q .is-named)
+      (λ fitted. subst (Right (heldIn (lengthsOf a)) fitted m) (sym d) (r fitted))
+      (λ h frame.
+      ap (λ (x : List ℕ). saidBy ReadRun (callOf frame (h .axes) (h .settings) (h .reply) a) m (startIn m x) (countIn m x)) d ∙ t h frame)
+
+  -- of any numbers that are held it says two digits for each byte
+  pub reads-any : (a : Areas) → Open a → RunTold ours a name tag
   unfolding byteOf
-  whole u =
-      says a (text "210" ++ take 7 (content s)) (text "210" ++ content s) reading (t .is-open) (omega arith) (simp length-take (omega arith)) (named .2)
-      (right-here t (query-right 0x24E 0x210 2 3 2 columnsTag RunBytes ChangeRun ReadRun _ true h s (t .ordered) refl))
-      (said-back 0x24E 0x210 2 3 2 columnsTag _ t u)
+  reads-any a o start count some few all =
+      let h : Held = heldIn (lengthsOf a) in
+      let k = kindOf h tag in
+      let w = within k start count all in
+      let f : start < 16 ^ 3 = omega (arith, w .1, some, q .narrow h (sound (lengthsOf a) (o .points) (o .variables))) in
+      let g : count < 16 ^ 2 = omega arith in
+      asks-it a (text "00" ++ (digitsOf 3 start ++ digitsOf 2 count)) (asksRun name start count ++ digitsIn (runOf k start count (areaIn tag a))) o
+      (simp length-append (omega (arith, inverse 3 .as-many start, inverse 2 .as-many count)))
+      (asks-right id 2 3 2 tag ReadRun true start count f g (omega arith) h some all)
+      (λ x frame.
+      ap₂ (λ (y z : ℕ). headOf (row id 2 3 2 tag Nothing ReadRun true) y z ++ digitsIn (runOf k y z (areaIn tag a)))
+      (start-said id 2 3 2 tag ReadRun true start count f g (omega arith))
+      (count-said id 2 3 2 tag ReadRun true start count f g (omega arith))
+      ∙ ap (λ (y : List ℕ). (y ++ (text "00" ++ (digitsOf 3 start ++ digitsOf 2 count))) ++ digitsIn (runOf k start count (areaIn tag a))) (q .is-written))
 
-  -- columns that a host may ask for
-  module _ (start count : ℕ) (some : 1 ≤ count) (few : count ≤ 255) (all : holds columnsOf start count ≡ true) where
-    abbrev here : List ℕ
-    here = runOf columnsOf start count (a .columns)
+  -- a change of such a run that stands
+  module _ (changed : ℕ) (repeats : Bool) {a : Areas} {s : Sent} {later : List Sent}
+      (t : Standing (heldIn (lengthsOf a)) a (row changed 2 3 2 tag RunBytes ChangeRun repeats) s later) where
+    abbrev m : Message
+    m = row changed 2 3 2 tag RunBytes ChangeRun repeats
 
-    in-place : (number many : ℕ) → startOf changing s ≤ number → number + many ≤ startOf changing s + countOf changing s → start ≤ number → number + many ≤ start + count
-        → untouched columnsTag number many later ≡ true → digitsFrom start number many (digitsIn here) ≡ digitsFrom (startOf changing s) number many (restOf changing s)
-    in-place number many l m p q u =
-        let one : (x : ℕ) → x * 1 ≡ x = λ x. omega arith in
-        let r = run-in columnsOf start count number many (a .columns) (within columnsOf start count all .0) p q in
-        let b = rw (kind-columns h) at (part-back 0x24E 0x210 2 3 2 columnsTag _ t number many l m u) in
-        digits-part many (number - start) here
-        ∙ ap digitsIn (ap₂ (λ (x y : ℕ). take x (drop y here)) (sym (one many)) (sym (one (number - start))) ∙ r)
-        ∙ b
-        ∙ ap₂ (λ (x y : ℕ). take (2 * x) (drop (2 * y) (restOf changing s))) (one many) (one (number - startOf changing s))
+    whole : untouched tag (startOf m s) (countOf m s) later ≡ true → Says ours a (name ++ take 7 (content s)) (name ++ content s)
+    whole u =
+        asks-it a (take 7 (content s)) (name ++ content s) (t .is-open) (simp length-take (omega arith))
+        (query-right changed id 2 3 2 tag RunBytes ChangeRun ReadRun repeats true (heldIn (lengthsOf a)) s (t .ordered) refl)
+        (λ x frame. said-back changed id 2 3 2 tag repeats t (omega arith) u x frame ∙ ap (λ (y : List ℕ). y ++ content s) (q .is-written))
 
-    said-here : ColumnsSaid ours a changing s later start count
-    said-here =
-        record {
-          digits = digitsIn here;
-          says = reads-any a (t .is-open) start count some few all;
-          as-many = length-digitsIn here ∙ ap (λ (x : ℕ). 2 * x) (run-length columnsOf start count all (a .columns) (eqb-true _ _ (t .is-open .columns)) ∙ omega arith);
-          in-place = in-place;
-        }
+    -- numbers that a host may ask for
+    module _ (start count : ℕ) (some : 1 ≤ count) (few : count ≤ 255) (all : holds (kindIn tag a) start count ≡ true) where
+      abbrev here : List ℕ
+      here = runOf (kindIn tag a) start count (areaIn tag a)
 
-  pub codes-read : CodesRead ours a changing s later
-  codes-read = record { kind = refl; whole = whole; any-run = said-here }
+      in-place : (number many : ℕ) → startOf m s ≤ number → number + many ≤ startOf m s + countOf m s → start ≤ number → number + many ≤ start + count
+          → untouched tag number many later ≡ true
+          → digitsFrom (kindIn tag a .unit) start number many (digitsIn here) ≡ digitsFrom (kindIn tag a .unit) (startOf m s) number many (restOf m s)
+      in-place number many l n p r u =
+          let k = kindIn tag a in
+          digits-part (many * k .unit) ((number - start) * k .unit) here
+          ∙ ap digitsIn (run-in k start count number many (areaIn tag a) (within k start count all .0) p r)
+          ∙ part-back changed id 2 3 2 tag repeats t number many l n u
+
+      said-here : RunSaid ours a name tag m s later start count
+      said-here =
+          record {
+            digits = digitsIn here;
+            says = reads-any a (t .is-open) start count some few all;
+            as-many = length-digitsIn here ∙ ap (λ (x : ℕ). 2 * x) (run-length (kindIn tag a) start count all (areaIn tag a) (areas-long a (t .is-open) tag));
+            in-place = in-place;
+          }
+
+    pub run-read : RunRead ours a name tag m s later
+    run-read = record { kind = refl; whole = whole; any-run = said-here }

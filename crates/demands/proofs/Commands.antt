@@ -14,9 +14,9 @@ use Rattle.digits.proofs.Inverse.{inverse, and-left, and-right}
 use Rattle.frames.specs.Frame.{CR, LF, stationIn, messageIn, contentIn, scIn, scOf, shaped, sumTrue, sumOff, sumPasses, stationPasses}
 use Rattle.frames.proofs.Bools.{or-true}
 use Rattle.frames.proofs.Promised.{closed-true, says-digits}
-use Rattle.kinds.specs.Kinds.{pointsTag, columnsTag}
-use Rattle.table.specs.declared.Follows.the-variants.{Nothing, Points, RunBytes}
-use Rattle.table.specs.declared.Action.the-variants.{CountPoints, ListPoints, ReadRun, WritePoints, ClearRun, ChangeRun}
+use Rattle.kinds.specs.Kinds.{pointsTag, columnsTag, integersTag, flagsTag}
+use Rattle.table.specs.declared.Follows.the-variants.{Nothing, Points, RunBytes, ChangeType}
+use Rattle.table.specs.declared.Action.the-variants.{CountPoints, ListPoints, ReadRun, WritePoints, ClearRun, ChangeRun, ShowFlags, SetFlag}
 use Rattle.table.specs.declared.Message.{Message}
 use Rattle.table.specs.declared.Named.{Named}
 use Rattle.table.specs.declared.Named.the-variants.{Known, Unknown}
@@ -148,18 +148,31 @@ clearing = row 0x246 0 3 3 pointsTag Nothing ClearRun false
 abbrev pub changing : Message
 changing = row 0x24E 2 3 2 columnsTag RunBytes ChangeRun false
 
+abbrev pub readingIntegers : Message
+readingIntegers = row 0x20E 2 3 2 integersTag Nothing ReadRun true
+
+abbrev pub changingIntegers : Message
+changingIntegers = row 0x24C 2 3 2 integersTag RunBytes ChangeRun true
+
+abbrev pub showing : Message
+showing = row 0x20D 2 4 4 flagsTag Nothing ShowFlags true
+
+abbrev pub setting : Message
+setting = row 0x24B 2 4 0 flagsTag ChangeType SetFlag false
+
 -- the table's row of an ID is the one that a frame's message with that ID is
 numbered : (frame : List ℕ) {m : Message} → messageOf frame ≡ Known m → messageNumbered (m .id) ≡ Known m
 unfolding messageNumbered
-numbered frame e = in-frame (λ (m : Message). messageNumbered (m .id) ≡ Known m) frame (refl, (refl, (refl, (refl, (refl, (refl, (refl, (refl, tt)))))))) e
+numbered frame e = in-frame (λ (m : Message). messageNumbered (m .id) ≡ Known m) frame (refl, (refl, (refl, (refl, (refl, (refl, (refl, (refl, (refl, (refl, (refl, (refl, tt)))))))))))) e
 
 pub row-of : (frame : List ℕ) {m : Message} (id : ℕ) (r : Message) → messageOf frame ≡ Known m → m .id ≡ id → messageNumbered id ≡ Known r → m ≡ r
 row-of frame {m} id r e i n = let k : Known m ≡ Known r = sym (numbered frame e) ∙ ap messageNumbered i ∙ n in cc
 
--- 244H, 246H and 24EH are these
+-- 244H, 246H, 24EH, 24CH and 24BH are these
 pub rows : (messageNumbered 0x244 ≡ Known writing) × (messageNumbered 0x246 ≡ Known clearing) × (messageNumbered 0x24E ≡ Known changing)
+    × (messageNumbered 0x24C ≡ Known changingIntegers) × (messageNumbered 0x24B ≡ Known setting)
 unfolding messageNumbered
-rows = (refl, refl, refl)
+rows = (refl, refl, refl, refl, refl)
 
 -- the message that an ID names
 abbrev pub messageNamed : List ℕ → Named
@@ -170,7 +183,8 @@ pub message-of : (frame id : List ℕ) → messageIn frame ≡ id → messageOf 
 unfolding messageOf
 message-of frame id e = rw e
 
--- 208H, 209H and 210H are known
+-- 208H, 209H, 210H, 20EH and 20DH are known
 pub named : (messageNamed (text "208") ≡ Known counting) × (messageNamed (text "209") ≡ Known listing) × (messageNamed (text "210") ≡ Known reading)
+    × (messageNamed (text "20E") ≡ Known readingIntegers) × (messageNamed (text "20D") ≡ Known showing)
 unfolding isDigit worthOf messageNumbered
-named = (refl, refl, refl)
+named = (refl, refl, refl, refl, refl)

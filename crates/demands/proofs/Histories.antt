@@ -10,7 +10,7 @@ use lib.ListN.{length, replicate, length-append, length-replicate}
 use borrow.Author.Tests.{eqb-true, eqb-false, eq-eqb, ne-eqb}
 use Rattle.digits.proofs.Inverse.{and-left, and-right}
 use Rattle.kinds.specs.declared.Held.{Held}
-use Rattle.kinds.specs.Kinds.{pointsOf, columnsOf, kindOf, sizeOf, runOf}
+use Rattle.kinds.specs.Kinds.{pointsOf, columnsOf, integersOf, flagsOf, kindOf, sizeOf, runOf}
 use Rattle.journal.specs.Journal.{Entry, encode, encodes, kept, added, areaOf, lastEntry, others, entryFor}
 use Rattle.journal.specs.Laws.{AllGood}
 use Rattle.journal.proofs.Codec.{length-encode}
@@ -25,12 +25,13 @@ use Rattle.table.specs.Table.{messageOf, restIn}
 use Rattle.messages.specs.Asked.{askedOf}
 use Rattle.messages.proofs.Judged.{told}
 use Rattle.calls.specs.Calls.{Areas, Sent, Outcome, fresh, areaIn, putIn, oldEntry, withEntries, steppedBack}
+use Rattle.calls.proofs.Tagged.{each-long}
 use Rattle.link.specs.Answer.{newBytes, asked, answerOf, backOf}
 use Rattle.link.proofs.Answering.{accepted-back}
 use Rattle.demands.specs.Refused.{asksWrite}
 use Rattle.demands.specs.History.{ours, Event, frame, stepBack, callOn, after, acceptedWrite, butLast, standing, Past, past, alone, allAccepted, entries, runSaid, entrySaid, entryBy, stored, account, entered, Holds, EveryHistory}
 use Rattle.demands.proofs.Refused.{one-number, changes-nothing, query-changes-nothing}
-use Rattle.demands.proofs.Shaped.{Bounds, Shape, each-long, takes, numberOn, held-is, journal-long, entries-held, same-entries, takes-is, back-is}
+use Rattle.demands.proofs.Shaped.{Bounds, Shape, takes, numberOn, held-is, journal-long, entries-held, same-entries, takes-is, back-is}
 use Rattle.demands.proofs.Wrote.{Writes, ordered, entryOf, oldBy, writtenBy, wrote, same-put, undone, shaped}
 
 -- a frame that is no accepted write changes nothing
@@ -90,7 +91,11 @@ module _ {held : Held} {size : ℕ} (b : Bounds held size) where
   fresh-shape =
       let z : size ≡ size - 0 = omega arith in
       record {
-        long = each-long held (fresh held size) (length-replicate {A = ℕ} (sizeOf (pointsOf held)) 0) (length-replicate {A = ℕ} (sizeOf columnsOf) 0);
+        long =
+            each-long held (fresh held size) (length-replicate {A = ℕ} (sizeOf (pointsOf held)) 0) (length-replicate {A = ℕ} (sizeOf columnsOf) 0)
+            (length-replicate {A = ℕ} (sizeOf (integersOf held)) 0)
+            (length-replicate {A = ℕ} (sizeOf (flagsOf held)) 0);
+        firsts = refl;
         holds = record { bytes = ap (λ (m : ℕ). replicate m 0) z; used = refl };
         good = tt;
         fits = omega arith;
@@ -386,6 +391,7 @@ module _ {held : Held} {size : ℕ} (b : Bounds held size) where
       taken-shape =
           record {
             long = λ t. ap length (things-back t) ∙ old-some .shape .long t;
+            firsts = v .shape .firsts;
             holds = record { bytes = ap (λ (m : ℕ). areaOf m (others es)) (journal-long b (v .shape)); used = refl };
             good = good-others held es (v .shape .good);
             fits = fewer;

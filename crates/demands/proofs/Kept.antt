@@ -11,10 +11,10 @@ use Rattle.table.specs.declared.Message.{Message}
 use Rattle.messages.proofs.Judged.{Right}
 use Rattle.calls.specs.Calls.{Areas, Sent, Call, lengthsOf, areaIn}
 use Rattle.link.specs.Answer.{held, writes, newBytes, answerOf}
-use Rattle.link.proofs.Carrying.{fine}
+use Rattle.link.proofs.Carrying.{fine, areas-long}
 use Rattle.demands.specs.Reading.{startOf, countOf, restOf, untouched}
 use Rattle.demands.proofs.Asking.{Took, Ordered, Open}
-use Rattle.demands.proofs.Written.{wrote, areas-left, lengths-kept, open-after, area-size}
+use Rattle.demands.proofs.Written.{wrote, areas-left, lengths-kept, open-after}
 use Rattle.demands.proofs.Runs.{put-in}
 
 -- the bytes that a write stores
@@ -52,7 +52,7 @@ standing-next m c t bs =
           ap (runOf (kindOf (held c) (m .tag)) number many) (r .own)
           ∙ put-in (kindOf (held c) (m .tag)) (startOf m (c .sent)) (countOf m (c .sent)) (newOf (held c) m (c .sent)) (areaIn (m .tag) (c .areas))
           (r .run .run .held-all)
-          (area-size c (fine c (t .heard)) (m .tag))
+          (areas-long (c .areas) (fine c (t .heard) .areas) (m .tag))
           (r .run .long)
           number
           many

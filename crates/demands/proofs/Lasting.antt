@@ -27,7 +27,7 @@ use Rattle.demands.specs.Reading.{content, startOf, countOf, spares, unt
 use Rattle.demands.proofs.Asking.{Ordered, ordered-so}
 use Rattle.demands.proofs.Shaped.{Bounds, takes, held-is, passes}
 use Rattle.demands.proofs.Wrote.{Writes, entryOf, long-again}
-use Rattle.demands.proofs.Written.{put-own, put-other}
+use Rattle.calls.proofs.Tagged.{put-own, put-other}
 use Rattle.demands.proofs.Runs.{put-in, put-apart}
 use Rattle.demands.proofs.Kept.{newOf, Kept, Standing}
 use Rattle.demands.proofs.Histories.{AllTook, fresh-shape, order-of, said-is, alone-account, alone-from, Inv, holds-always}
@@ -62,7 +62,7 @@ one-spared {held} {s} w a l tag number many =
         let apart : (leb (w .start + w .count) number || leb (number + many) (w .start)) ≡ true = rw (p, c) q in
         subst left (eqb-true _ _ e)
         (λ g.
-        ap (runOf (kindOf held (m .tag)) number many) (put-own held (m .tag) (w .start) (w .count) (entryOf w .bytes) a (w .able .run .some) (w .able .run .held-all))
+        ap (runOf (kindOf held (m .tag)) number many) (put-own held (w .start) (w .count) (entryOf w .bytes) a (m .tag) (w .able .run .some) (w .able .run .held-all))
         ∙ put-apart (kindOf held (m .tag)) (w .start) (w .count) (entryOf w .bytes) (areaIn (m .tag) a) (w .able .run .held-all) (l (m .tag)) (w .able .long) number many g apart)
         f
 
@@ -125,7 +125,7 @@ module _ {held : Held} {size : ℕ} (b : Bounds held size) where
         ∙ ap (areaIn (m .tag)) (account-append held (fresh held size) earlier (s ∷ later)))
         ∙ spared (m .tag) number many f later (parts .2) (putIn held its old) new-long u
         ∙ ap (λ (y : Named). runOf k number many (areaIn (m .tag) (putIn held (runSaid held y (content s)) old))) known
-        ∙ ap (runOf k number many) (put-own held (m .tag) (startOf m s) (countOf m s) (newOf held m s) old (r .run .some) (r .run .held-all))
+        ∙ ap (runOf k number many) (put-own held (startOf m s) (countOf m s) (newOf held m s) old (m .tag) (r .run .some) (r .run .held-all))
         ∙ put-in k (startOf m s) (countOf m s) (newOf held m s) (areaIn (m .tag) old) (r .run .held-all) (old-long (m .tag)) (r .long) number many l n
 
     pub standing-past : Standing held (p .areas) m s later

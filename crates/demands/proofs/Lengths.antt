@@ -16,18 +16,18 @@ use Rattle.kinds.specs.Kinds.{kindOf, placeOf}
 use Rattle.points.specs.Axes.{axesOf}
 use Rattle.points.proofs.Ones.{at-most}
 use Rattle.table.specs.declared.Action.{Action}
-use Rattle.table.specs.declared.Action.the-variants.{SayBack, CountPoints, ListPoints, ReadRun, AxisStatus, WritePoints, ClearRun, ChangeRun}
+use Rattle.table.specs.declared.Action.the-variants.{SayBack, CountPoints, ListPoints, ReadRun, AxisStatus, WritePoints, ClearRun, ChangeRun, ShowFlags, SetFlag}
 use Rattle.table.specs.declared.Message.{Message}
 use Rattle.table.specs.Table.{Narrow}
 use Rattle.messages.specs.declared.Asked.{Asked}
 use Rattle.messages.specs.declared.Asked.the-variants.{Refused, Order}
 use Rattle.listing.specs.Listing.{listing, listed, joined}
 use Rattle.queries.specs.Replies.{headOf, listText}
-use Rattle.queries.proofs.Texts.{head-repeating, head-alone, length-run, length-list, length-axes}
+use Rattle.queries.proofs.Texts.{head-repeating, head-alone, length-run, length-flags, length-list, length-axes}
 use Rattle.calls.specs.Calls.{Call, Outcome}
 use Rattle.refusals.specs.Refusals.{silentOf}
 use Rattle.link.specs.Answer.{held, asked, rest, saidBy, textOf}
-use Rattle.link.specs.Contract.{Heard}
+use Rattle.link.specs.Contract.{Heard, runArea}
 use Rattle.link.proofs.Handling as handling
 use Rattle.demands.specs.Replied.{ReplyFits}
 use Rattle.demands.proofs.Refused.{answer-either}
@@ -79,7 +79,7 @@ module _ (c : Call) (m : Message) (start count : ℕ) (h : Heard c m start count
       let k = kindOf (held c) (m .tag) in
       let r = handling.run-needs c m start count h d refl in
       let s = head-short m start count (handling.content c m start count h .narrow) in
-      let l = length-run m k start count (3 + length (headOf m start count)) (placeOf k start) (count * k .unit) (c .areas .columns) refl refl refl (omega (arith, r .1)) in
+      let l = length-run m k start count (3 + length (headOf m start count)) (placeOf k start) (count * k .unit) (runArea (m .tag) (c .areas .columns) (c .areas .integers)) refl refl refl (omega (arith, r .1)) in
       subst Short (handling.run-said c m start count h d refl) (omega (arith, l, r .0 .3))
   said-short AxisStatus d =
       let p = bitAnd (numberOf (rest c m)) (c .sent .settings .fitted) in
@@ -90,6 +90,13 @@ module _ (c : Call) (m : Message) (start count : ℕ) (h : Heard c m start count
   said-short WritePoints d = subst Short (handling.points-said c m start count h d) head
   said-short ClearRun d = subst Short (handling.clear-said c m start count h d) head
   said-short ChangeRun d = subst Short (handling.change-said c m start count h d) head
+  said-short ShowFlags d =
+      let k = kindOf (held c) (m .tag) in
+      let r = handling.flags-needs c m start count h d refl in
+      let s = head-short m start count (handling.content c m start count h .narrow) in
+      let l = length-flags m k start count (3 + length (headOf m start count)) (placeOf k start) (count * k .unit) (c .areas .flags) refl refl refl (omega (arith, r .1)) in
+      subst Short (handling.flags-said c m start count h d refl) (omega (arith, l, r .0 .3))
+  said-short SetFlag d = subst Short (handling.flag-said c m start count h d) head
 
 -- the reply to what a heard frame asks
 asked-short : (c : Call) (a : Asked) → silentOf c ≡ 0 → asked c ≡ a → length (textOf c a) ≤ 1024

@@ -1,4 +1,5 @@
 pub mod Refused
+pub mod Shown
 pub mod Sole
 pub mod Replied
 pub mod Parts

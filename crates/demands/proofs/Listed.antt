@@ -31,7 +31,8 @@ use Rattle.demands.specs.History.{ours}
 use Rattle.demands.specs.Reading.{content, startOf, countOf, restOf, untouched, Says, sentBy, fitting, lists, listRoom, asksPoints, PointsRead, PointsGone, effectiveOf, slotsFrom, Tells}
 use Rattle.demands.proofs.Commands.{counting, listing, writing, clearing, named}
 use Rattle.demands.proofs.Asking.{Open, says, same-start, same-count, query-right, start-said, count-said, asks-right}
-use Rattle.demands.proofs.Codes.{reads-any}
+use Rattle.demands.proofs.Codes.{of-columns, of-integers, reads-any}
+use Rattle.demands.proofs.Shown.{shows-any}
 use Rattle.demands.proofs.Kept.{Standing, right-here}
 use Rattle.demands.proofs.Slots.{listed-sent, listed-one-sent, listed-zero, zero-part}
 
@@ -52,7 +53,7 @@ module _ (a : Areas) (o : Open a) where
   unfolding byteOf
   counted =
       says a (text "208") (text "208" ++ digitsOf 3 (effectiveOf a)) counting o (omega arith) (omega arith) (named .0)
-      (λ fitted. record { digits = refl; long = refl; program = refl; some = refl; held-all = refl; pattern = refl })
+      (λ fitted. record { digits = refl; long = refl; program = refl; some = refl; held-all = refl; pattern = refl; type = refl })
       (λ x frame. refl)
 
   -- a 209H of any points lists those of them that are effective
@@ -60,16 +61,23 @@ module _ (a : Areas) (o : Open a) where
       → Says ours a (asksPoints start count) (lists (listed listRoom count start (slotsFrom start a)))
   lists-any start count some all =
       let v = within (pointsOf h) start count all in
-      let few = sound (lengthsOf a) (o .points) .points in
-      let n = start-said 0x209 0 3 3 pointsTag ListPoints false start count (omega (arith, v .1, few)) (omega (arith, v .0, v .1, few)) in
-      let c = count-said 0x209 0 3 3 pointsTag ListPoints false start count (omega (arith, v .1, few)) (omega (arith, v .0, v .1, few)) in
+      let few = sound (lengthsOf a) (o .points) (o .variables) .points in
+      let n = start-said 0x209 0 3 3 pointsTag ListPoints false start count (omega (arith, v .1, few)) (omega (arith, v .0, v .1, few)) (omega arith) in
+      let c = count-said 0x209 0 3 3 pointsTag ListPoints false start count (omega (arith, v .1, few)) (omega (arith, v .0, v .1, few)) (omega arith) in
       list-said a (digitsOf 3 start ++ digitsOf 3 count) (listed listRoom count start (slotsFrom start a)) o
-      (asks-right 0x209 0 3 3 pointsTag ListPoints false start count (omega (arith, v .1, few)) (omega (arith, v .0, v .1, few)) h some (rw (kind-points h) all))
+      (asks-right 0x209 0 3 3 pointsTag ListPoints false start count (omega (arith, v .1, few)) (omega (arith, v .0, v .1, few)) (omega arith) h some (rw (kind-points h) all))
       (simp length-append (omega (arith, inverse 3 .as-many start, inverse 3 .as-many count)))
       (ap₂ (λ (x y : ℕ). listed listRoom x y (slotsFrom y a)) c n)
 
   pub tells : Tells ours a
-  tells = record { counted = counted; listed = lists-any; read = reads-any a o }
+  tells =
+      record {
+        counted = counted;
+        listed = lists-any;
+        columns = reads-any of-columns a o;
+        integers = reads-any of-integers a o;
+        flags = shows-any a o;
+      }
 
 -- a message that writes slots, with what it wrote
 module _ (id : ℕ) (follows : Follows) (does : Action) (repeats : Bool) where
@@ -126,10 +134,10 @@ module _ (id : ℕ) (follows : Follows) (does : Action) (repeats : Bool) where
           → Says ours a (asksPoints number 1) (lists ls)
       says-one ls sound e =
           let v = within (pointsOf h) (startOf slots s) (countOf slots s) run-held in
-          let n = start-said 0x209 0 3 3 pointsTag ListPoints false number 1 (omega (arith, v .1)) (omega arith) in
-          let c = count-said 0x209 0 3 3 pointsTag ListPoints false number 1 (omega (arith, v .1)) (omega arith) in
+          let n = start-said 0x209 0 3 3 pointsTag ListPoints false number 1 (omega (arith, v .1)) (omega arith) (omega arith) in
+          let c = count-said 0x209 0 3 3 pointsTag ListPoints false number 1 (omega (arith, v .1)) (omega arith) (omega arith) in
           list-said a (digitsOf 3 number ++ digitsOf 3 1) ls (t .is-open)
-          (right-here t (asks-right 0x209 0 3 3 pointsTag ListPoints false number 1 (omega (arith, v .1)) (omega arith) h (omega arith) (rw (kind-points h) number-held)))
+          (right-here t (asks-right 0x209 0 3 3 pointsTag ListPoints false number 1 (omega (arith, v .1)) (omega arith) (omega arith) h (omega arith) (rw (kind-points h) number-held)))
           (simp length-append (omega (arith, inverse 3 .as-many number)))
           (ap₂ (λ (x y : ℕ). listed 1011 x y (drop ((y - 1) * 40) (a .points))) c n ∙ ap (listed 1011 1 number) one-there ∙ e)
 

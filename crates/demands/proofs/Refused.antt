@@ -66,12 +66,12 @@ number-given : (P : ℕ → Type 0) (rs : List Row) → P 0 → EachNumber P rs 
 number-given P [] z h = z
 number-given P (r ∷ rs) z h = either P (r .holds) (λ _. h .0) (λ _. number-given P rs z (h .1))
 
--- the numbers of a frame: 1 to 8 without a reply, and from 101 on
-silent-low : (c : Call) → silentOf c ≤ 8
+-- the numbers of a frame: to 10 without a reply, and from 101 on
+silent-low : (c : Call) → silentOf c ≤ 10
 unfolding silentOf silentRows areaRows frameRows
 silent-low c =
-    number-given (λ (k : ℕ). k ≤ 8) (silent c) (omega arith)
-    (omega arith, (omega arith, (omega arith, (omega arith, (omega arith, (omega arith, (omega arith, (omega arith, tt))))))))
+    number-given (λ (k : ℕ). k ≤ 10) (silent c) (omega arith)
+    (omega arith, (omega arith, (omega arith, (omega arith, (omega arith, (omega arith, (omega arith, (omega arith, (omega arith, tt)))))))))
 
 high : (held : Held) (fitted : ℕ) (n : Named) (content : List ℕ) → (firstOf (askedRows held fitted n content) ≡ 0 → ⊥)
     → 101 ≤ firstOf (askedRows held fitted n content)
@@ -79,7 +79,7 @@ unfolding askedRows
 high held fitted Unknown content k = omega arith
 high held fitted (Known m) content k =
     number-given (λ (k : ℕ). (k ≡ 0 → ⊥) → 101 ≤ k) (askedRows held fitted (Known m) content) (λ n. absurd (n refl))
-    (λ _. omega arith, (λ _. omega arith, (λ _. omega arith, (λ _. omega arith, (λ _. omega arith, (λ _. omega arith, tt))))))
+    (λ _. omega arith, (λ _. omega arith, (λ _. omega arith, (λ _. omega arith, (λ _. omega arith, (λ _. omega arith, (λ _. omega arith, tt)))))))
     k
 
 asked-high : (c : Call) → (numberGiven (asked c) ≡ 0 → ⊥) → 101 ≤ numberGiven (asked c)
@@ -93,17 +93,17 @@ Listed ns n = among n ns ≡ true
 
 silent-listed : (c : Call) → Listed frameNumbers (silentOf c)
 unfolding silentOf silentRows areaRows frameRows
-silent-listed c = number-given (Listed frameNumbers) (silent c) refl (refl, (refl, (refl, (refl, (refl, (refl, (refl, (refl, tt))))))))
+silent-listed c = number-given (Listed frameNumbers) (silent c) refl (refl, (refl, (refl, (refl, (refl, (refl, (refl, (refl, (refl, tt)))))))))
 
 asked-listed : (held : Held) (fitted : ℕ) (n : Named) (content : List ℕ) → Listed frameNumbers (firstOf (askedRows held fitted n content))
 unfolding askedRows
 asked-listed held fitted Unknown content = refl
 asked-listed held fitted (Known m) content =
-    number-given (Listed frameNumbers) (askedRows held fitted (Known m) content) refl (refl, (refl, (refl, (refl, (refl, (refl, tt))))))
+    number-given (Listed frameNumbers) (askedRows held fitted (Known m) content) refl (refl, (refl, (refl, (refl, (refl, (refl, (refl, tt)))))))
 
 back-listed : (a : Areas) → Listed backNumbers (backRefusalOf a)
 unfolding backRefusalOf backRows areaRows
-back-listed a = number-given (Listed backNumbers) (backRows (lengthsOf a) (a .journal) (a .kept)) refl (refl, (refl, (refl, (refl, tt))))
+back-listed a = number-given (Listed backNumbers) (backRows (lengthsOf a) (a .journal) (a .kept)) refl (refl, (refl, (refl, (refl, (refl, tt)))))
 
 pub no-other-number : NoOtherNumber
 no-other-number =
@@ -134,9 +134,9 @@ text-ten c =
 ten-long : (c : Call) → 101 ≤ answerOf c .number → length (answerOf c .text) ≡ 10
 ten-long c h = ap length (text-ten c h) ∙ length-reply _ _ _
 
-no-other : (c : Call) → 9 ≤ answerOf c .number → 101 ≤ answerOf c .number
+no-other : (c : Call) → 11 ≤ answerOf c .number → 101 ≤ answerOf c .number
 no-other c =
-    answer-either c (λ (o : Outcome). 9 ≤ o .number → 101 ≤ o .number) (λ _ h. asked-high c (λ e. omega (arith, h, e)))
+    answer-either c (λ (o : Outcome). 11 ≤ o .number → 101 ≤ o .number) (λ _ h. asked-high c (λ e. omega (arith, h, e)))
     (λ _ h. absurd (omega (arith, h, silent-low c)))
 
 back-text : (a : Areas) → backOf a .text ≡ []

@@ -9,8 +9,8 @@ use lib.ListN.{length}
 use borrow.Author.Tests.{eq-eqb, le-leb}
 use Rattle.frames.specs.Frame.{contentIn}
 use Rattle.kinds.specs.declared.Held.{Held}
-use Rattle.kinds.specs.Kinds.{Sound, pointsTag, columnsTag, pointsOf, columnsOf, kindOf, heldIn, sizeOf}
-use Rattle.kinds.proofs.Known.{kind-points, kind-columns}
+use Rattle.kinds.specs.Kinds.{Sound, pointsTag, columnsTag, integersTag, flagsTag, kindOf, heldIn, sizeOf}
+use Rattle.kinds.proofs.Known.{kind-points, kind-columns, kind-integers, kind-flags}
 use Rattle.journal.specs.Journal.{Entry, encodes}
 use Rattle.journal.specs.Laws.{AllGood}
 use Rattle.journal.specs.Laws as journal
@@ -19,7 +19,7 @@ use Rattle.messages.specs.Rows.{firstOf}
 use Rattle.table.specs.Table.{messageOf}
 use Rattle.messages.specs.Asked.{askedRows, askedOf}
 use Rattle.calls.specs.Calls.{Areas, Sent, lengthsOf, areaIn, entriesOf}
-use Rattle.refusals.specs.Refusals.{pointsFit, leastJournal, journalFits, axesFit, refusalOf, backRefusalOf}
+use Rattle.refusals.specs.Refusals.{pointsFit, variablesFit, leastJournal, journalFits, axesFit, refusalOf, backRefusalOf}
 use Rattle.refusals.proofs.Rows.{AreasPass, past-areas, back-rows, frameNumber, refusal-is}
 use Rattle.demands.specs.Refused.{asksWrite}
 use Rattle.demands.specs.History.{ours, callOn, acceptedWrite, entries}
@@ -34,22 +34,10 @@ pub record Bounds (held : Held) (size : ℕ) : Type 0 where
 
 pub record Shape (held : Held) (size : ℕ) (a : Areas) (es : List Entry) : Type 0 where
   pub long : (tag : ℕ) → length (areaIn tag a) ≡ sizeOf (kindOf held tag)
+  pub firsts : a .firsts ≡ held .firsts
   pub holds : journal.Holds size es (a .journal) (a .kept .used)
   pub good : AllGood held es
   pub fits : length (encodes es) ≤ size
-
--- each kind's area is as long as it should, and there is none of any other tag
-pub each-long : (held : Held) (a : Areas) → length (a .points) ≡ sizeOf (pointsOf held) → length (a .columns) ≡ sizeOf columnsOf → (tag : ℕ)
-    → length (areaIn tag a) ≡ sizeOf (kindOf held tag)
-unfolding kindOf
-each-long held a p c tag = go (eqb tag pointsTag) (eqb tag columnsTag)
-  where
-    go : (x y : Bool)
-        → length (cond x (a .points) (cond y (a .columns) []))
-        ≡ sizeOf (cond x (pointsOf held) (cond y columnsOf (record { tag = tag; first = 0; unit = 1; held = 0; most = 0 })))
-    go true y = p
-    go false true = c
-    go false false = refl
 
 -- whether a board that holds so much accepts a frame as a write, and the number that it gives, whatever stands in such areas
 abbrev pub numberOn : Held → Sent → ℕ
@@ -70,7 +58,7 @@ module _ {held : Held} {size : ℕ} (b : Bounds held size) where
     columns-long = h .long columnsTag ∙ ap sizeOf (kind-columns held)
 
     pub held-is : heldIn (lengthsOf a) ≡ held
-    held-is = let n : length (a .points) / 40 ≡ held .points = omega (arith, points-long) in λ i. record { points = n i }
+    held-is = let n : length (a .points) / 40 ≡ held .points = omega (arith, points-long) in λ i. record { points = n i; firsts = h .firsts i }
 
     pub journal-long : length (a .journal) ≡ size
     journal-long = ap length (h .holds .bytes) ∙ area-long size es (h .fits)
@@ -93,6 +81,17 @@ module _ {held : Held} {size : ℕ} (b : Bounds held size) where
         let m = b .sound .points in
         rw (eq-eqb (length (a .points) % 40) 0 (omega arith), le-leb 40 (length (a .points)) (omega arith), le-leb (length (a .points)) 60000 (omega arith))
 
+    variables-pass : variablesFit (length (a .integers)) (length (a .flags)) (a .firsts) ≡ true
+    unfolding variablesFit
+    variables-pass =
+        rw (
+          eq-eqb (length (a .integers)) 400 (h .long integersTag ∙ ap sizeOf (kind-integers held)),
+          eq-eqb (length (a .flags)) 300 (h .long flagsTag ∙ ap sizeOf (kind-flags held)),
+          h .firsts,
+          le-leb _ _ (b .sound .integers),
+          le-leb _ _ (b .sound .flags),
+        )
+
     journal-pass : journalFits held (a .journal) (a .kept .used) ≡ true
     unfolding journalFits
     journal-pass =
@@ -109,6 +108,7 @@ module _ {held : Held} {size : ℕ} (b : Bounds held size) where
         record {
           points = points-pass;
           columns = eq-eqb _ _ columns-long;
+          variables = variables-pass;
           journal-fits = ap (λ (x : Held). journalFits x (a .journal) (a .kept .used)) held-is ∙ journal-pass;
         }
 

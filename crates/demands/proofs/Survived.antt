@@ -1,14 +1,15 @@
 -- Demand 2, put together: by the next call, and after any history.
 use Prim.Native.Nat.{ℕ, _+_, _*_, _≤_}
 use mathlib.Core.Path.{_≡_, refl, sym, ap, _∙_, subst}
-use mathlib.Core.Bool.{Bool, true}
+use mathlib.Core.Bool.{Bool, true, false}
 use mathlib.Core.List.{List}
 use native.Mathlib.Omega.{arith}
 use lib.ListN.{length}
+use Rattle.digits.specs.Text.{text}
 use Rattle.digits.proofs.Bools.{was-not}
 use Rattle.kinds.specs.declared.Held.{Held}
 use Rattle.kinds.specs.declared.Lengths.{Lengths}
-use Rattle.kinds.specs.Kinds.{pointsTag, pointsOf, heldIn, holds, put}
+use Rattle.kinds.specs.Kinds.{pointsTag, columnsTag, integersTag, pointsOf, heldIn, holds, put}
 use Rattle.kinds.proofs.Known.{kind-points}
 use Rattle.points.specs.Point.{effectiveIn}
 use Rattle.table.specs.declared.Follows.{Follows}
@@ -18,33 +19,40 @@ use Rattle.table.specs.declared.Action.the-variants.{WritePoints, ClearRun}
 use Rattle.table.specs.declared.Message.{Message}
 use Rattle.table.specs.declared.Named.the-variants.{Known}
 use Rattle.table.specs.Table.{row, messageOf}
-use Rattle.calls.specs.Calls.{Areas, Sent, Call}
+use Rattle.calls.specs.Calls.{Areas, Sent, Call, lengthsOf}
 use Rattle.link.specs.Answer.{held, rest, writes, newBytes, answerOf}
 use Rattle.refusals.proofs.Rows.{call-passed}
 use Rattle.link.proofs.Carrying.{fine}
 use Rattle.demands.specs.History.{ours}
-use Rattle.demands.specs.Reading.{startOf, countOf, CodesRead, PointsRead, PointsGone, Reads, effectiveOf}
+use Rattle.demands.specs.Reading.{startOf, countOf, RunRead, FlagRead, PointsRead, PointsGone, Reads, effectiveOf}
 use Rattle.demands.specs.Survive.{Accepted, HeardAgain, effectiveNamed, Once, EveryDigitSurvives}
 use Rattle.demands.proofs.Refused.{one-number}
-use Rattle.demands.proofs.Commands.{writing, clearing, changing, row-of, rows, station-byte}
+use Rattle.demands.proofs.Commands.{writing, clearing, changing, changingIntegers, setting, row-of, rows, station-byte}
 use Rattle.demands.proofs.Asking.{Took, took}
 use Rattle.demands.proofs.Shaped.{Bounds, passes}
 use Rattle.demands.proofs.Written.{wrote, lengths-kept, open-after, only-named}
 use Rattle.demands.proofs.Kept.{Standing, standing-next}
-use Rattle.demands.proofs.Codes.{codes-read}
+use Rattle.demands.proofs.Codes.{of-columns, of-integers, run-read}
+use Rattle.demands.proofs.Shown.{flag-read}
 use Rattle.demands.proofs.Listed.{tells, points-read, points-gone}
 use Rattle.demands.proofs.Slots.{effective-sent, effective-zero, effective-put}
 use Rattle.demands.proofs.Histories.{first, every}
 use Rattle.demands.proofs.Lasting.{standing-past}
 
--- what is read of a write that stands, whichever of the three it is
+-- what is read of a write that stands, whichever of the five it is
 reads : {h : Held} {a : Areas} {m : Message} {s : Sent} {later : List Sent} → h .points ≤ 1500 → messageOf (s .frame) ≡ Known m → Standing h a m s later
     → Reads ours a m s later
 reads {h} {a} {m} {s} {later} sound known t =
     record {
       codes = λ i.
           let e = row-of (s .frame) 0x24E changing known i (rows .2) in
-          subst (λ (x : Message). CodesRead ours a x s later) (sym e) (codes-read (here e));
+          subst (λ (x : Message). RunRead ours a (text "210") columnsTag x s later) (sym e) (run-read of-columns 0x24E false (there (here e)));
+      integers = λ i.
+          let e = row-of (s .frame) 0x24C changingIntegers known i (rows .3) in
+          subst (λ (x : Message). RunRead ours a (text "20E") integersTag x s later) (sym e) (run-read of-integers 0x24C true (there (here e)));
+      flag = λ i.
+          let e = row-of (s .frame) 0x24B setting known i (rows .4) in
+          subst (λ (x : Message). FlagRead ours a x s later) (sym e) (flag-read (there (here e)));
       points = λ i.
           let e = row-of (s .frame) 0x244 writing known i (rows .0) in
           subst (λ (x : Message). PointsRead ours a x s later) (sym e) (points-read (here e) sound);
@@ -55,6 +63,10 @@ reads {h} {a} {m} {s} {later} sound known t =
   where
     here : {r : Message} → m ≡ r → Standing h a r s later
     here e = subst (λ (x : Message). Standing h a x s later) e t
+
+    -- what is held is what the areas hold
+    there : {r : Message} → Standing h a r s later → Standing (heldIn (lengthsOf a)) a r s later
+    there {r} x = subst (λ (y : Held). Standing y a r s later) (sym (t .is-held)) x
 
 -- a message that writes slots: each effective one of them is counted once
 module _ (id : ℕ) (follows : Follows) (does : Action) (repeats : Bool) where

@@ -9,20 +9,21 @@ use lib.ListN.{length}
 use borrow.Author.Tests.{eqb-true, eqb-false}
 use Rattle.kinds.specs.declared.Kind.{Kind}
 use Rattle.kinds.specs.declared.Held.{Held}
-use Rattle.kinds.specs.Kinds.{pointsTag, columnsTag, pointsOf, columnsOf, kindOf, holds, sizeOf, put}
-use Rattle.kinds.proofs.Known.{tag-of, own-kind, within, room, run-length}
+use Rattle.kinds.specs.Kinds.{pointsTag, columnsTag, integersTag, flagsTag, kindOf, holds, sizeOf, put}
+use Rattle.kinds.proofs.Known.{tag-of, own-kind, room, run-length}
 use Rattle.kinds.proofs.Promised.{run}
-use Rattle.journal.specs.Journal.{Entry, puts, entryFor}
+use Rattle.journal.specs.Journal.{entryFor}
 use Rattle.journal.specs.Laws.{Good}
 use Rattle.journal.proofs.Codec.{Bytes}
-use Rattle.journal.proofs.Fitting.{good, puts-other}
+use Rattle.journal.proofs.Fitting.{good}
 use Rattle.table.specs.declared.Message.{Message}
-use Rattle.calls.specs.Calls.{Areas, Call, Outcome, lengthsOf, areaIn, putIn, oldEntry, written}
+use Rattle.calls.specs.Calls.{Areas, Call, Outcome, lengthsOf, areaIn, oldEntry, written}
+use Rattle.calls.proofs.Tagged.{put-own, put-other}
 use Rattle.kinds.specs.declared.Lengths.{Lengths}
 use Rattle.refusals.specs.Refusals.{journalFits}
 use Rattle.refusals.proofs.Rows.{AreasPass, call-passed}
 use Rattle.link.specs.Answer.{held, rest, writes, newBytes, answerOf}
-use Rattle.link.proofs.Carrying.{Fine, fine, Writable, writable}
+use Rattle.link.proofs.Carrying.{fine, areas-long, Writable, writable}
 use Rattle.demands.specs.History.{ours}
 use Rattle.demands.specs.Reading.{content, startOf, countOf}
 use Rattle.demands.specs.Survive.{Outside, OnlyNamed}
@@ -37,54 +38,17 @@ module _ (k : Kind) (start count : ℕ) (bytes area : List ℕ) (h : holds k sta
       let w = run k start count bytes area e (omega arith) in
       record { before-it = w .outside-before; behind-it = λ i b. w .outside-behind i (omega arith); as-long = w .as-long }
 
--- each kind's area is as long as its kind says
-pub area-size : (c : Call) → Fine c → (tag : ℕ) → length (areaIn tag (c .areas)) ≡ sizeOf (kindOf (held c) tag)
-unfolding kindOf
-area-size c f tag = go (eqb tag pointsTag) (eqb tag columnsTag)
-  where
-    go : (b b′ : Bool) → length (cond b (c .areas .points) (cond b′ (c .areas .columns) []))
-        ≡ sizeOf (cond b (pointsOf (held c)) (cond b′ columnsOf (record { tag = tag; first = 0; unit = 1; held = 0; most = 0 })))
-    go true b′ = omega (arith, f .points .whole-slots)
-    go false true = f .columns
-    go false false = refl
-
--- bytes of a held run stand in the area of their own kind
-pub put-own : (h : Held) (tag start count : ℕ) (bytes : List ℕ) (a : Areas) → 1 ≤ count → holds (kindOf h tag) start count ≡ true
-    → areaIn tag (putIn h (entryFor tag start bytes) a) ≡ put (kindOf h tag) start bytes (areaIn tag a)
-unfolding kindOf puts
-put-own h tag start count bytes a some = go (eqb tag pointsTag) (eqb tag columnsTag)
-  where
-    none : Kind
-    none = record { tag = tag; first = 0; unit = 1; held = 0; most = 0 }
-
-    go : (b b′ : Bool) → holds (cond b (pointsOf h) (cond b′ columnsOf none)) start count ≡ true
-        → cond b (cond b (put (pointsOf h) start bytes (a .points)) (a .points)) (cond b′ (cond b′ (put columnsOf start bytes (a .columns)) (a .columns)) [])
-        ≡ put (cond b (pointsOf h) (cond b′ columnsOf none)) start bytes (cond b (a .points) (cond b′ (a .columns) []))
-    go true b′ e = refl
-    go false true e = refl
-    go false false e = absurd (let w = within none start count e in omega (arith, w .1))
-
--- and the area of another kind is as it was
-pub put-other : (h : Held) (e : Entry) (a : Areas) (tag : ℕ) → (tag ≡ e .tag → ⊥) → areaIn tag (putIn h e a) ≡ areaIn tag a
-put-other h e a tag n = go (eqb tag pointsTag) (eqb tag columnsTag) refl refl
-  where
-    go : (b b′ : Bool) → eqb tag pointsTag ≡ b → eqb tag columnsTag ≡ b′
-        → cond b (puts (pointsOf h) e (a .points)) (cond b′ (puts columnsOf e (a .columns)) []) ≡ cond b (a .points) (cond b′ (a .columns) [])
-    go true b′ p q = sym (puts-other (pointsOf h) e (a .points) (λ z. n (eqb-true _ _ p ∙ sym z)))
-    go false true p q = sym (puts-other columnsOf e (a .columns) (λ z. n (eqb-true _ _ q ∙ sym z)))
-    go false false p q = refl
-
 -- the kind of the things that a message names, and the bytes that it stores
-abbrev pub kindIn : Message → Call → Kind
-kindIn m c = kindOf (held c) (m .tag)
+abbrev pub kindNamed : Message → Call → Kind
+kindNamed m c = kindOf (held c) (m .tag)
 
 abbrev pub newIn : Message → Call → List ℕ
-newIn m c = newBytes (m .does) (kindIn m c .unit) (countOf m (c .sent)) (rest c m)
+newIn m c = newBytes (m .does) (kindNamed m c .unit) (countOf m (c .sent)) (rest c m)
 
 -- what an accepted write leaves
 pub record Wrote (m : Message) (c : Call) : Type 0 where
   pub run : Writable (held c) (content (c .sent)) m (startOf m (c .sent)) (countOf m (c .sent))
-  pub own : areaIn (m .tag) (answerOf c .areas) ≡ put (kindIn m c) (startOf m (c .sent)) (newIn m c) (areaIn (m .tag) (c .areas))
+  pub own : areaIn (m .tag) (answerOf c .areas) ≡ put (kindNamed m c) (startOf m (c .sent)) (newIn m c) (areaIn (m .tag) (c .areas))
   pub only : OnlyNamed ours m c
 
 module _ (m : Message) (c : Call) (t : Took m c) where
@@ -99,15 +63,15 @@ module _ (m : Message) (c : Call) (t : Took m c) where
     wrote =
         let r = writable (held c) (content (c .sent)) m (startOf m (c .sent)) (countOf m (c .sent)) (t .assured) w in
         let own =
-        ap (areaIn (m .tag)) (areas-left true w) ∙ put-own (held c) (m .tag) (startOf m (c .sent)) (countOf m (c .sent)) (newIn m c) (c .areas) (r .run .some) (r .run .held-all) in
+        ap (areaIn (m .tag)) (areas-left true w) ∙ put-own (held c) (startOf m (c .sent)) (countOf m (c .sent)) (newIn m c) (c .areas) (m .tag) (r .run .some) (r .run .held-all) in
         record {
           run = r;
           own = own;
           only =
               record {
                 outside =
-                    subst (Outside (kindIn m c) (startOf m (c .sent)) (countOf m (c .sent)) (areaIn (m .tag) (c .areas))) (sym own)
-                    (outside (kindIn m c) (startOf m (c .sent)) (countOf m (c .sent)) (newIn m c) (areaIn (m .tag) (c .areas)) (r .run .held-all) (area-size c (fine c (t .heard)) (m .tag)) (r .long));
+                    subst (Outside (kindNamed m c) (startOf m (c .sent)) (countOf m (c .sent)) (areaIn (m .tag) (c .areas))) (sym own)
+                    (outside (kindNamed m c) (startOf m (c .sent)) (countOf m (c .sent)) (newIn m c) (areaIn (m .tag) (c .areas)) (r .run .held-all) (areas-long (c .areas) (fine c (t .heard) .areas) (m .tag)) (r .long));
                 others = λ tag n. ap (areaIn tag) (areas-left true w) ∙ put-other (held c) (entryFor (m .tag) (startOf m (c .sent)) (newIn m c)) (c .areas) tag n;
                 query = λ q. areas-left false q;
               };
@@ -115,7 +79,14 @@ module _ (m : Message) (c : Call) (t : Took m c) where
 
     -- the areas stay as long as they were
     pub lengths-kept : lengthsOf (answerOf c .areas) ≡ lengthsOf (c .areas)
-    lengths-kept = ap₂ (λ (p q : ℕ). record { points = p; columns = q }) (same pointsTag) (same columnsTag)
+    lengths-kept = λ i.
+        record {
+          points = same pointsTag i;
+          columns = same columnsTag i;
+          integers = same integersTag i;
+          flags = same flagsTag i;
+          firsts = areas-left true w i .firsts;
+        }
       where
         same : (tag : ℕ) → length (areaIn tag (answerOf c .areas)) ≡ length (areaIn tag (c .areas))
         same tag = go (eqb tag (m .tag)) refl
@@ -131,11 +102,11 @@ module _ (m : Message) (c : Call) (t : Took m c) where
         let f = fine c (t .heard) in
         let r = wrote .run .run in
         let e = oldEntry (held c) (m .tag) (startOf m (c .sent)) (countOf m (c .sent)) (c .areas) in
-        let l : length (e .bytes) ≡ countOf m (c .sent) * kindIn m c .unit =
-        run-length (kindIn m c) (startOf m (c .sent)) (countOf m (c .sent)) (r .held-all) (areaIn (m .tag) (c .areas)) (area-size c f (m .tag)) in
+        let l : length (e .bytes) ≡ countOf m (c .sent) * kindNamed m c .unit =
+        run-length (kindNamed m c) (startOf m (c .sent)) (countOf m (c .sent)) (r .held-all) (areaIn (m .tag) (c .areas)) (areas-long (c .areas) (f .areas) (m .tag)) in
         let g : Good (held c) e =
         subst (λ (x : ℕ). Good (held c) (entryFor x (startOf m (c .sent)) (e .bytes))) (tag-of (held c) (m .tag))
-        (good (held c) (kindIn m c) (startOf m (c .sent)) (countOf m (c .sent)) (e .bytes) (f .sound-held) (own-kind (held c) (m .tag)) (r .some) (r .named) (r .held-all) l) in
+        (good (held c) (kindNamed m c) (startOf m (c .sent)) (countOf m (c .sent)) (e .bytes) (f .sound-held) (own-kind (held c) (m .tag)) (r .some) (r .named) (r .held-all) l) in
         subst (λ (a : Areas). journalFits (held c) (a .journal) (a .kept .used) ≡ true) (sym (areas-left true w))
         (journal-again (held c) (c .areas .journal) (c .areas .kept .used) e bs (f .journal) g (omega (arith, f .journal .least, r .few-bytes)))
 
@@ -149,7 +120,7 @@ module _ (m : Message) (c : Call) (t : Took m c) where
       go : (b : Bool) → writes (m .does) ≡ b → Open (answerOf c .areas)
       go true w =
           subst (λ (x : Lengths). AreasPass x (answerOf c .areas .journal) (answerOf c .areas .kept)) (sym (lengths-kept w))
-          (record { points = passed .points; columns = passed .columns; journal-fits = journal-last w bs })
+          (record { points = passed .points; columns = passed .columns; variables = passed .variables; journal-fits = journal-last w bs })
       go false w = subst Open (sym (areas-left false w)) passed
 
   -- an accepted message changes nothing but what it names
@@ -162,7 +133,7 @@ module _ (m : Message) (c : Call) (t : Took m c) where
           let e : c .areas ≡ answerOf c .areas = sym (areas-left false w) in
           record {
             outside =
-                subst (λ (a : Areas). Outside (kindIn m c) (startOf m (c .sent)) (countOf m (c .sent)) (areaIn (m .tag) (c .areas)) (areaIn (m .tag) a)) e
+                subst (λ (a : Areas). Outside (kindNamed m c) (startOf m (c .sent)) (countOf m (c .sent)) (areaIn (m .tag) (c .areas)) (areaIn (m .tag) a)) e
                 (record { before-it = λ i b. refl; behind-it = λ i b. refl; as-long = refl });
             others = λ tag n. ap (areaIn tag) (sym e);
             query = λ q. sym e;

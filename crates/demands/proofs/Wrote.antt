@@ -9,10 +9,10 @@ use lib.ListN.{length}
 use borrow.Author.Tests.{eqb-true}
 use Rattle.frames.specs.Frame.{contentIn}
 use Rattle.kinds.specs.declared.Held.{Held}
-use Rattle.kinds.specs.Kinds.{pointsTag, columnsTag, pointsOf, columnsOf, kindOf, sizeOf, put}
+use Rattle.kinds.specs.Kinds.{pointsTag, columnsTag, integersTag, flagsTag, pointsOf, columnsOf, integersOf, flagsOf, kindOf, sizeOf, put}
 use Rattle.kinds.specs.Laws.{Run}
 use Rattle.kinds.proofs.Promised.{run}
-use Rattle.kinds.proofs.Known.{tag-of, own-kind, kind-points, kind-columns, room, run-length}
+use Rattle.kinds.proofs.Known.{tag-of, own-kind, kind-points, kind-columns, kind-integers, kind-flags, room, run-length}
 use Rattle.journal.specs.Journal.{Entry, encodes, added, areaOf, puts, entryFor}
 use Rattle.journal.specs.Laws.{Good}
 use Rattle.journal.proofs.Codec.{length-encode}
@@ -24,13 +24,14 @@ use Rattle.messages.specs.declared.Asked.the-variants.{Refused, Order}
 use Rattle.table.specs.Table.{restIn}
 use Rattle.messages.specs.Asked.{askedOf}
 use Rattle.calls.specs.Calls.{Areas, Sent, Outcome, areaIn, putIn, oldEntry, written}
+use Rattle.calls.proofs.Tagged.{each-long, same-areas}
 use Rattle.link.specs.Answer.{writes, newBytes, areasAfter, storedBy, answerOf}
 use Rattle.link.proofs.Answering.{accepted, heard-answer}
 use Rattle.link.proofs.Carrying.{Writable, writable, judged-so}
 use Rattle.demands.specs.Refused.{asksWrite}
 use Rattle.demands.specs.History.{ours, frame, callOn, after}
 use Rattle.demands.proofs.Journals.{added-fits}
-use Rattle.demands.proofs.Shaped.{Bounds, Shape, each-long, held-is, journal-long, entries-held}
+use Rattle.demands.proofs.Shaped.{Bounds, Shape, held-is, journal-long, entries-held}
 
 -- what a frame that writes orders of a board that holds so much, and that it can be carried out
 pub record Writes (held : Held) (s : Sent) : Type 0 where
@@ -84,13 +85,13 @@ module _ {held : Held} {s : Sent} (w : Writes held s) where
       ∙ ap (λ (x : Held). storedBy x (w .message) (w .start) (w .count) (restIn (w .message) (contentIn (s .frame))) a) is
       ∙ rw (w .is-write)
 
--- areas that hold the same, kind by kind, and what is put into them
-same-areas : (a a′ : Areas) → a .points ≡ a′ .points → a .columns ≡ a′ .columns → (t : ℕ) → areaIn t a ≡ areaIn t a′
-same-areas a a′ p c t = ap₂ (λ (x y : List ℕ). cond (eqb t pointsTag) x (cond (eqb t columnsTag) y [])) p c
-
+-- areas that hold the same, kind by kind: so is what is put into them
 pub same-put : (held : Held) (e : Entry) (a a′ : Areas) → ((t : ℕ) → areaIn t a ≡ areaIn t a′) → (t : ℕ)
     → areaIn t (putIn held e a) ≡ areaIn t (putIn held e a′)
-same-put held e a a′ f = same-areas (putIn held e a) (putIn held e a′) (ap (puts (pointsOf held) e) (f pointsTag)) (ap (puts columnsOf e) (f columnsTag))
+same-put held e a a′ f =
+    same-areas (putIn held e a) (putIn held e a′) (ap (puts (pointsOf held) e) (f pointsTag)) (ap (puts columnsOf e) (f columnsTag))
+    (ap (puts (integersOf held) e) (f integersTag))
+    (ap (puts (flagsOf held) e) (f flagsTag))
 
 -- a write over areas of the right lengths
 module _ {held : Held} {s : Sent} (w : Writes held s) (a : Areas) (l : (t : ℕ) → length (areaIn t a) ≡ sizeOf (kindOf held t)) where
@@ -129,10 +130,14 @@ module _ {held : Held} {s : Sent} (w : Writes held s) (a : Areas) (l : (t : ℕ)
   undone =
       same-areas (putIn held (oldBy w a) (putIn held (entryOf w) a)) a (rw (kind-points held) at (put-back pointsTag))
       (rw (kind-columns held) at (put-back columnsTag))
+      (rw (kind-integers held) at (put-back integersTag))
+      (rw (kind-flags held) at (put-back flagsTag))
 
   pub long-again : (t : ℕ) → length (areaIn t (putIn held (entryOf w) a)) ≡ sizeOf (kindOf held t)
   long-again =
       each-long held (putIn held (entryOf w) a) (rw (kind-points held) at (after-put pointsTag)) (rw (kind-columns held) at (after-put columnsTag))
+      (rw (kind-integers held) at (after-put integersTag))
+      (rw (kind-flags held) at (after-put flagsTag))
 
   -- the entry of what stood there is good
   old-long : length (oldBy w a .bytes) ≡ w .count * kindOf held (tag w) .unit
@@ -150,6 +155,7 @@ pub shaped : {held : Held} {size : ℕ} {s : Sent} (w : Writes held s) (b : Boun
 shaped {held} {size} w b {a} {es} h =
     record {
       long = long-again w a (h .long);
+      firsts = h .firsts;
       holds =
           record {
             bytes = ap₂ (λ (m : ℕ) (x : List Entry). areaOf m (added m x (oldBy w a))) (journal-long b h) (entries-held b h);

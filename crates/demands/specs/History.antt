@@ -1,5 +1,5 @@
 -- Demand 3: histories of frames and steps back, from fresh. "use the same ones throughout, hand each call the used length the last one handed back,
--- and let nothing else write them".
+-- and let nothing else write them"; the first numbers stay too: "while the settings stay as they were at fresh" (02, a).
 use Prim.Native.Nat.{ℕ, _≤_}
 use mathlib.Core.Path.{_≡_}
 use mathlib.Core.Logic.{_↔_}
@@ -53,7 +53,7 @@ abbrev pub entries : Areas → List Entry
 entries a = entriesOf (heldIn (lengthsOf a)) a
 
 -- the run that a message with its content says, whatever a board makes of it, in the shape of an entry: its kind's tag, its start number and the
--- bytes to store ("Each message": the slots of its points, zero bytes, a byte for each pair of digits); an unknown one says none
+-- bytes to store ("Each message"; 02, a: the slots of its points, zero bytes, a byte for each pair of digits, a flag's byte); an unknown one says none
 abbrev pub runSaid : Held → Named → List ℕ → Entry
 runSaid held Unknown content = entryFor 0 0 []
 runSaid held (Known m) content =
@@ -109,7 +109,8 @@ module _ (board : Conduct) where
 
   -- what holds of every past
   pub record Holds (held : Held) (size : ℕ) (p : Past) : Type 0 where
-    -- "points and columns are exactly what the accepted writes not taken back would leave if done alone, in order, from fresh": the area of each kind
+    -- "points and columns are exactly what the accepted writes not taken back would leave if done alone, in order, from fresh": the area of each kind,
+    -- "all four kinds" (02, a)
     pub things : (tag : ℕ) → areaIn tag (p .areas) ≡ areaIn tag (alone (fresh held size) (p .standing-writes))
     -- and the account of these writes says the same, so each is done whole ("demand 3 counts whole writes")
     pub whole-writes : (tag : ℕ) → areaIn tag (p .areas) ≡ areaIn tag (account held (fresh held size) (p .standing-writes))

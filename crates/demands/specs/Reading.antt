@@ -5,18 +5,20 @@ use mathlib.Core.Bool.{Bool, true, cond, not, _&&_, _||_}
 use mathlib.Core.List.{List, [], _∷_, _++_}
 use lib.Dec.{leb, eqb}
 use lib.ListN.{length, take, drop, getD}
-use Rattle.digits.specs.Digits.{digitsOf}
+use Rattle.digits.specs.Digits.{numberOf, digitsOf}
 use Rattle.digits.specs.Text.{text}
 use Rattle.frames.specs.Frame.{command, normal, CR, LF, contentIn, scOf, replyOf}
-use Rattle.kinds.specs.Kinds.{pointsTag, columnsTag, pointsOf, columnsOf, heldIn, holds, placeOf, runOf}
+use Rattle.kinds.specs.declared.Kind.{Kind}
+use Rattle.kinds.specs.Kinds.{pointsTag, columnsTag, integersTag, flagsTag, pointsOf, kindOf, heldIn, holds, placeOf, runOf}
 use Rattle.pairs.specs.Pairs.{digitsIn}
+use Rattle.flags.specs.Flags.{eights, bitAt}
 use Rattle.points.specs.Point.{lengthOf, effectiveIn}
 use Rattle.table.specs.declared.Message.{Message}
 use Rattle.table.specs.declared.Named.{Named}
 use Rattle.table.specs.declared.Named.the-variants.{Known, Unknown}
 use Rattle.table.specs.Table.{messageOf, startIn, countIn, restIn}
 use Rattle.listing.specs.Listing.{listed as listedIn, joined}
-use Rattle.calls.specs.Calls.{Areas, Sent, Call, callOf, lengthsOf}
+use Rattle.calls.specs.Calls.{Areas, Sent, Call, callOf, lengthsOf, areaIn}
 use Rattle.refusals.specs.Refusals.{axesFit}
 use Rattle.demands.specs.History.{Conduct}
 
@@ -66,29 +68,51 @@ abbrev pub untouched : ℕ → ℕ → ℕ → List Sent → Bool
 untouched tag number many [] = true
 untouched tag number many (s ∷ later) = spares tag number many (messageOf (s .frame)) (content s) && untouched tag number many later
 
--- 210H of columns: program number 00, start and count; the reply repeats these ("Each message")
-abbrev pub asksColumns : ℕ → ℕ → List ℕ
-asksColumns start count = text "21000" ++ (digitsOf 3 start ++ digitsOf 2 count)
+-- a kind's query, 210H of columns or 20EH of integers: its ID, program number 00, start and count; the reply repeats these ("Each message"; 02, a)
+abbrev pub asksRun : List ℕ → ℕ → ℕ → List ℕ
+asksRun id start count = id ++ (text "00" ++ (digitsOf 3 start ++ digitsOf 2 count))
 
--- the two digits each of so many columns, in digits whose first column is a given one
-abbrev pub digitsFrom : ℕ → ℕ → ℕ → List ℕ → List ℕ
-digitsFrom first number many digits = take (2 * many) (drop (2 * (number - first)) digits)
+-- the digits of so many things of so many bytes each, two for a byte, in digits whose first thing is a given one
+abbrev pub digitsFrom : ℕ → ℕ → ℕ → ℕ → List ℕ → List ℕ
+digitsFrom unit first number many digits = take (2 * (many * unit)) (drop (2 * ((number - first) * unit)) digits)
 
--- a 210H of some columns says, of all those that a 24EH changed and no later write touched, the very digits that were sent, in their place
-pub record ColumnsSaid (board : Conduct) (a : Areas) (m : Message) (s : Sent) (later : List Sent) (start count : ℕ) : Type 0 where
+-- the kind of a tag, over areas
+abbrev pub kindIn : ℕ → Areas → Kind
+kindIn tag a = kindOf (heldIn (lengthsOf a)) tag
+
+-- a query of some numbers of a kind says, of all those that a change named and no later write touched, the very digits that were sent, in their place
+pub record RunSaid (board : Conduct) (a : Areas) (id : List ℕ) (tag : ℕ) (m : Message) (s : Sent) (later : List Sent) (start count : ℕ) : Type 0 where
   pub digits : List ℕ
-  pub says : Says board a (asksColumns start count) (asksColumns start count ++ digits)
-  pub as-many : length digits ≡ 2 * count
+  pub says : Says board a (asksRun id start count) (asksRun id start count ++ digits)
+  pub as-many : length digits ≡ 2 * (count * kindIn tag a .unit)
   pub in-place :
       (number many : ℕ) → startOf m s ≤ number → number + many ≤ startOf m s + countOf m s → start ≤ number → number + many ≤ start + count
-      → untouched columnsTag number many later ≡ true → digitsFrom start number many digits ≡ digitsFrom (startOf m s) number many (restOf m s)
+      → untouched tag number many later ≡ true
+      → digitsFrom (kindIn tag a .unit) start number many digits ≡ digitsFrom (kindIn tag a .unit) (startOf m s) number many (restOf m s)
 
--- demand 2, after a 24EH: a 210H of the same columns says the very content that was sent; one of any part of them, or of any columns that hold them or a
--- part of them, says these digits in their place
-pub record CodesRead (board : Conduct) (a : Areas) (m : Message) (s : Sent) (later : List Sent) : Type 0 where
-  pub kind : m .tag ≡ columnsTag
-  pub whole : untouched columnsTag (startOf m s) (countOf m s) later ≡ true → Says board a (text "210" ++ take 7 (content s)) (text "210" ++ content s)
-  pub any-run : (start count : ℕ) → 1 ≤ count → count ≤ 255 → holds columnsOf start count ≡ true → ColumnsSaid board a m s later start count
+-- demand 2, after a change of a kind's run: a query of the same numbers says the very content that was sent; one of any part of them, or of any numbers
+-- that hold them or a part of them, says these digits in their place
+pub record RunRead (board : Conduct) (a : Areas) (id : List ℕ) (tag : ℕ) (m : Message) (s : Sent) (later : List Sent) : Type 0 where
+  pub kind : m .tag ≡ tag
+  pub whole : untouched tag (startOf m s) (countOf m s) later ≡ true → Says board a (id ++ take 7 (content s)) (id ++ content s)
+  pub any-run : (start count : ℕ) → 1 ≤ count → count ≤ 255 → holds (kindIn tag a) start count ≡ true → RunSaid board a id tag m s later start count
+
+-- 20DH of flags: program number 00, start and count; the reply repeats these (02, a)
+abbrev pub asksFlags : ℕ → ℕ → List ℕ
+asksFlags start count = text "20D00" ++ (digitsOf 4 start ++ digitsOf 4 count)
+
+-- a 20DH of some flags shows a flag's value in its bit
+pub record FlagShown (board : Conduct) (a : Areas) (start count number value : ℕ) : Type 0 where
+  pub bytes : List ℕ
+  pub says : Says board a (asksFlags start count) (asksFlags start count ++ digitsIn bytes)
+  pub bit : bitAt (number - start) bytes ≡ value
+
+-- demand 2, after a 24BH: every 20DH of flags among which its flag is shows the change type that was sent
+pub record FlagRead (board : Conduct) (a : Areas) (m : Message) (s : Sent) (later : List Sent) : Type 0 where
+  pub kind : m .tag ≡ flagsTag
+  pub shown :
+      untouched flagsTag (startOf m s) 1 later ≡ true → (start count : ℕ) → holds (kindIn flagsTag a) start count ≡ true → start ≤ startOf m s
+      → startOf m s < start + count → FlagShown board a start count (startOf m s) (numberOf (restOf m s))
 
 -- the points that a 244H's digits send, each with its number before its very digits (as 209H lists them, 4-3-5)
 unfoldable pub sent : ℕ → ℕ → List ℕ → List (List ℕ)
@@ -133,7 +157,9 @@ pub record PointsGone (board : Conduct) (a : Areas) (m : Message) (s : Sent) (la
 
 -- what is read, over areas, of the numbers that a write named, where later writes have not touched them
 pub record Reads (board : Conduct) (a : Areas) (m : Message) (s : Sent) (later : List Sent) : Type 0 where
-  pub codes : m .id ≡ 0x24E → CodesRead board a m s later
+  pub codes : m .id ≡ 0x24E → RunRead board a (text "210") columnsTag m s later
+  pub integers : m .id ≡ 0x24C → RunRead board a (text "20E") integersTag m s later
+  pub flag : m .id ≡ 0x24B → FlagRead board a m s later
   pub points : m .id ≡ 0x244 → PointsRead board a m s later
   pub cleared : m .id ≡ 0x246 → PointsGone board a m s later
 
@@ -145,13 +171,21 @@ effectiveOf a = effectiveIn (heldIn (lengthsOf a) .points) (a .points)
 abbrev pub slotsFrom : ℕ → Areas → List ℕ
 slotsFrom number a = drop (placeOf (pointsOf (heldIn (lengthsOf a))) number) (a .points)
 
--- what is told of all that is held, whoever wrote it ("Each message"): 208H counts the effective points, 209H of any points lists those among them, as
--- many leading ones as fit, 210H of any columns says two digits for each
+-- two digits for each byte of any numbers of a kind
+abbrev pub RunTold : Conduct → Areas → List ℕ → ℕ → Type 0
+RunTold board a id tag =
+    (start count : ℕ) → 1 ≤ count → count ≤ 255 → holds (kindIn tag a) start count ≡ true
+    → Says board a (asksRun id start count) (asksRun id start count ++ digitsIn (runOf (kindIn tag a) start count (areaIn tag a)))
+
+-- what is told of all that is held, whoever wrote it ("Each message"; 02, a): 208H counts the effective points, 209H of any points lists those among
+-- them, as many leading ones as fit, 210H of any columns and 20EH of any integers say two digits for each byte, 20DH of any flags shows each eight
 pub record Tells (board : Conduct) (a : Areas) : Type 0 where
   pub counted : Says board a (text "208") (text "208" ++ digitsOf 3 (effectiveOf a))
   pub listed :
       (start count : ℕ) → 1 ≤ count → holds (pointsOf (heldIn (lengthsOf a))) start count ≡ true
       → Says board a (asksPoints start count) (lists (listedIn listRoom count start (slotsFrom start a)))
-  pub read :
-      (start count : ℕ) → 1 ≤ count → count ≤ 255 → holds columnsOf start count ≡ true
-      → Says board a (asksColumns start count) (asksColumns start count ++ digitsIn (runOf columnsOf start count (a .columns)))
+  pub columns : RunTold board a (text "210") columnsTag
+  pub integers : RunTold board a (text "20E") integersTag
+  pub flags :
+      (start count : ℕ) → 1 ≤ count → holds (kindIn flagsTag a) start count ≡ true
+      → Says board a (asksFlags start count) (asksFlags start count ++ digitsIn (eights 0 (runOf (kindIn flagsTag a) start count (a .flags))))

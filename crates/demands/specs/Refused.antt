@@ -19,13 +19,13 @@ pub record OneNumber : Type 0 where
   pub frame : (c : Call) → answerOf c .number ≡ refusalOf c
   pub back : (a : Areas) → backOf a .number ≡ backRefusalOf a
 
--- a frame's numbers ("Refusal numbers"): "An accepted call has number 0", 1 to 8 come without a reply, 101 to 107 with the error reply
+-- a frame's numbers ("Refusal numbers"; 02, a): "An accepted call has number 0", 1 to 8 and 10 come without a reply, 101 to 108 with the error reply
 abbrev pub frameNumbers : List ℕ
-frameNumbers = 0 ∷ 1 ∷ 2 ∷ 3 ∷ 4 ∷ 5 ∷ 6 ∷ 7 ∷ 8 ∷ 101 ∷ 102 ∷ 103 ∷ 104 ∷ 105 ∷ 106 ∷ 107 ∷ []
+frameNumbers = 0 ∷ 1 ∷ 2 ∷ 3 ∷ 10 ∷ 4 ∷ 5 ∷ 6 ∷ 7 ∷ 8 ∷ 101 ∷ 102 ∷ 103 ∷ 104 ∷ 105 ∷ 106 ∷ 107 ∷ 108 ∷ []
 
--- the step back's: it "tests 2, 3, 4, then 9" ("Refusal numbers")
+-- the step back's: it "tests 2, 3, 4, then 9" ("Refusal numbers"), and 10 after 3 (02, a)
 abbrev pub backNumbers : List ℕ
-backNumbers = 0 ∷ 2 ∷ 3 ∷ 4 ∷ 9 ∷ []
+backNumbers = 0 ∷ 2 ∷ 3 ∷ 10 ∷ 4 ∷ 9 ∷ []
 
 -- a number stands in such a list
 abbrev pub among : ℕ → List ℕ → Bool
@@ -37,12 +37,12 @@ pub record NoOtherNumber : Type 0 where
   pub frame : (c : Call) → among (answerOf c .number) frameNumbers ≡ true
   pub back : (a : Areas) → among (backOf a .number) backNumbers ≡ true
 
--- "A frame that is refused changes no point, no column and nothing in the journal" (demand 1); the step back neither
+-- "A frame that is refused changes no point, no column and nothing in the journal" (demand 1), no integer and no flag (02, a); the step back neither
 pub record ChangesNothing : Type 0 where
   pub frame : (c : Call) → (answerOf c .number ≡ 0 → ⊥) → answerOf c .areas ≡ c .areas
   pub back : (a : Areas) → (backOf a .number ≡ 0 → ⊥) → backOf a .areas ≡ a
 
--- "one fixed reply, or none": below 100 none, from 101 the ten bytes that number and station give; 100 and 9 are no frame's
+-- "one fixed reply, or none": below 100 none, from 101 the ten bytes that number and station give; none between is a frame's
 pub record OneReply : Type 0 where
   pub none : (c : Call) → (answerOf c .number ≡ 0 → ⊥) → answerOf c .number < 100 → answerOf c .text ≡ []
   pub ten :
@@ -51,10 +51,11 @@ pub record OneReply : Type 0 where
   -- so the reply area is left as it was, or beyond its first ten bytes
   pub area-left : (c : Call) → (answerOf c .number ≡ 0 → ⊥) → answerOf c .number < 100 → laid (c .sent .reply) 0 (answerOf c .text) ≡ c .sent .reply
   pub beyond-ten : (c : Call) → 101 ≤ answerOf c .number → drop 10 (laid (c .sent .reply) 0 (answerOf c .text)) ≡ drop 10 (c .sent .reply)
-  pub no-other : (c : Call) → 9 ≤ answerOf c .number → 101 ≤ answerOf c .number
+  pub no-other : (c : Call) → 11 ≤ answerOf c .number → 101 ≤ answerOf c .number
   pub back : (a : Areas) → backOf a .text ≡ []
 
--- "Granted that no refusal without a reply holds for the call, an error reply depends on frame, station, N and fitted axes only": two such calls
+-- "Granted that no refusal without a reply holds for the call, an error reply depends on frame, station, N and fitted axes only", and "may depend on
+-- settings too" (02, a), the first numbers: two such calls
 pub record SameError (c d : Call) : Type 0 where
   pub frame : c .sent .frame ≡ d .sent .frame
   pub station : c .sent .settings .station ≡ d .sent .settings .station
@@ -65,11 +66,11 @@ pub record SameError (c d : Call) : Type 0 where
 abbrev pub ErrorsAgree : Type 0
 ErrorsAgree = (c d : Call) → SameError c d → (answerOf c .number ≡ answerOf d .number) × (101 ≤ answerOf c .number → answerOf c .text ≡ answerOf d .text)
 
--- a write is asked, 244H, 246H or 24EH
+-- a write is asked, 244H, 246H, 24EH, 24BH or 24CH
 abbrev pub asksWrite : Asked → Bool
 asksWrite (Refused number) = false
 asksWrite (Order m start count) = writes (m .does)
 
--- a query changes no point, no column and nothing in the journal either, so it is never stepped back ("Slips we have seen")
+-- a query changes nothing of these either, so it is never stepped back ("Slips we have seen")
 abbrev pub QueryChangesNothing : Type 0
 QueryChangesNothing = (c : Call) → asksWrite (asked c) ≡ false → answerOf c .areas ≡ c .areas

@@ -31,9 +31,10 @@ use Rattle.table.specs.Table.{messageOf, fieldsOf, startIn, countIn, restIn, fo
 use Rattle.messages.specs.Asked.{askedOf}
 use Rattle.messages.proofs.Judged.{Right, Told, told, written}
 use Rattle.messages.proofs.Shapes.{Shape, Shaped, shaped}
-use Rattle.calls.specs.Calls.{Call, lengthsOf, areaIn}
+use Rattle.calls.specs.Calls.{Areas, Call, lengthsOf, areaIn}
+use Rattle.calls.proofs.Tagged.{each-long}
 use Rattle.refusals.specs.Refusals.{silentOf}
-use Rattle.refusals.proofs.Rows.{CallPassed, call-passed}
+use Rattle.refusals.proofs.Rows.{AreasPass, CallPassed, call-passed}
 use Rattle.refusals.proofs.Tested.{Points, Variables, Journal, points-fit, variables-fit, journal-fits, shaped-long, sound}
 use Rattle.link.specs.Answer.{held, asked, rest, writes, newBytes}
 
@@ -49,8 +50,7 @@ slots-long (suc count) digits =
 pub record Fine (c : Call) : Type 0 where
   pub reply-long : 1024 ≤ length (c .sent .reply)
   pub points : Points (length (c .areas .points))
-  pub columns : length (c .areas .columns) ≡ 700
-  pub variables : Variables (length (c .areas .integers)) (length (c .areas .flags)) (c .areas .firsts)
+  pub areas : AreasPass (lengthsOf (c .areas)) (c .areas .journal) (c .areas .kept)
   pub journal : Journal (held c) (c .areas .journal) (c .areas .kept .used)
   pub frame-long : 10 ≤ length (c .sent .frame)
   pub sound-held : Sound (held c)
@@ -61,29 +61,18 @@ fine c e =
     record {
       reply-long = ltb-false _ _ (p .reply-long);
       points = points-fit (length (c .areas .points)) (p .areas .points);
-      columns = eqb-true _ _ (p .areas .columns);
-      variables = variables-fit (length (c .areas .integers)) (length (c .areas .flags)) (c .areas .firsts) (p .areas .variables);
+      areas = p .areas;
       journal = journal-fits (held c) (c .areas .journal) (c .areas .kept .used) (p .areas .journal-fits);
       frame-long = shaped-long (c .sent .frame) (p .shape);
       sound-held = sound (lengthsOf (c .areas)) (p .areas .points) (p .areas .variables);
     }
 
 -- the area of each kind is as long as it should be
-pub area-long : (c : Call) (tag : ℕ) → Fine c → length (areaIn tag (c .areas)) ≡ sizeOf (kindOf (held c) tag)
-unfolding kindOf
-area-long c tag f = go (eqb tag pointsTag) (eqb tag columnsTag) (eqb tag integersTag) (eqb tag flagsTag)
-  where
-    go : (p q r s : Bool)
-        → length (cond p (c .areas .points) (cond q (c .areas .columns) (cond r (c .areas .integers) (cond s (c .areas .flags) []))))
-        ≡ sizeOf
-        (cond p (pointsOf (held c))
-        (cond q columnsOf
-        (cond r (integersOf (held c)) (cond s (flagsOf (held c)) (record { tag = tag; first = 0; unit = 1; held = 0; most = 0 })))))
-    go true q r s = omega (arith, f .points .whole-slots)
-    go false true r s = f .columns
-    go false false true s = f .variables .integers-long
-    go false false false true = f .variables .flags-long
-    go false false false false = refl
+pub areas-long : (a : Areas) → AreasPass (lengthsOf a) (a .journal) (a .kept) → (tag : ℕ) → length (areaIn tag a) ≡ sizeOf (kindOf (heldIn (lengthsOf a)) tag)
+areas-long a p =
+    let v = variables-fit (length (a .integers)) (length (a .flags)) (a .firsts) (p .variables) in
+    each-long (heldIn (lengthsOf a)) a (omega (arith, points-fit (length (a .points)) (p .points) .whole-slots)) (eqb-true _ _ (p .columns)) (v .integers-long)
+    (v .flags-long)
 
 -- a content is ten bytes shorter than its frame
 pub content-long : (frame : List ℕ) → 10 ≤ length frame → length (contentIn frame) ≡ length frame - 10

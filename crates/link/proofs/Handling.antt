@@ -33,7 +33,7 @@ use Rattle.calls.specs.declared.Kept.{Kept}
 use Rattle.calls.specs.Calls.{Areas, Call, areasOf, areaIn, written}
 use Rattle.link.specs.Answer.{held, asked, rest, writes, newBytes, saidBy, areasAfter}
 use Rattle.link.specs.Contract.{Heard, runArea}
-use Rattle.link.proofs.Carrying.{Fine, fine, area-long, Judged, judged-so, Named, Writable, writable, content-long}
+use Rattle.link.proofs.Carrying.{Fine, fine, areas-long, Judged, judged-so, Named, Writable, writable, content-long}
 use Rattle.link.proofs.Outcomes.{ready, replacing, written-so}
 
 module _ (c : Call) (m : Message) (start count : ℕ) (h : Heard c m start count) where
@@ -135,7 +135,7 @@ module _ (c : Call) (m : Message) (start count : ℕ) (h : Heard c m start count
         let x = shape-of d in
         let w = run-in e (x .1) in (
           (content .narrow, board .reply-long, w .0, rw e (few-digits (x .0) (x .1) (x .2))),
-          (ap length (run-area (x .0)) ∙ area-long c (m .tag) board ∙ ap sizeOf (sym e), w .1, w .2),
+          (ap length (run-area (x .0)) ∙ areas-long (c .areas) (board .areas) (m .tag) ∙ ap sizeOf (sym e), w .1, w .2),
         )
 
     pub run-said : {k : Kind} → k ≡ kindOf (held c) (m .tag)
@@ -151,7 +151,7 @@ module _ (c : Call) (m : Message) (start count : ℕ) (h : Heard c m start count
         let f = e ∙ ap (kindOf (held c)) (shape-of d .0) ∙ kind-flags (held c) in
         let w = run-in e (shape-of d .1) in
         let n : count ≤ flagsOf (held c) .held = rw f at (w .3) in
-        ((content .narrow, board .reply-long, w .0, rw f (omega (arith, n))), (ap length (flags-area (shape-of d .0)) ∙ area-long c (m .tag) board ∙ ap sizeOf (sym e), w .1, w .2))
+        ((content .narrow, board .reply-long, w .0, rw f (omega (arith, n))), (ap length (flags-area (shape-of d .0)) ∙ areas-long (c .areas) (board .areas) (m .tag) ∙ ap sizeOf (sym e), w .1, w .2))
 
     pub flags-said : {k : Kind} → k ≡ kindOf (held c) (m .tag) → flagsText m k start count (c .areas .flags) ≡ saidBy (m .does) c m start count
     flags-said e = rw (d, e, ← flags-area (shape-of d .0))
@@ -176,7 +176,7 @@ module _ (c : Call) (m : Message) (start count : ℕ) (h : Heard c m start count
 
     pub can-write : {hd : Held} {k : Kind} (area : List ℕ) → hd ≡ held c → k ≡ kindOf (held c) (m .tag) → area ≡ areaIn (m .tag) (c .areas)
         → Ready hd k start count area (c .areas .journal) (c .areas .kept .used)
-    can-write area e f l = rw (e, f) (ready c (m .tag) start count area board (run .run) (ap length l ∙ area-long c (m .tag) board))
+    can-write area e f l = rw (e, f) (ready c (m .tag) start count area board (run .run) (ap length l ∙ areas-long (c .areas) (board .areas) (m .tag)))
 
     pub stored : {hd : Held} {k : Kind} {area : List ℕ} (new area′ journal′ : List ℕ) (kept′ : Kept) (left : ℕ) → hd ≡ held c → k ≡ kindOf (held c) (m .tag)
         → area ≡ areaIn (m .tag) (c .areas) → new ≡ newBytes (m .does) (kindOf (held c) (m .tag) .unit) count (rest c m) → kept′ .used ≡ left
