@@ -460,6 +460,7 @@ module _ {held : Held} {size : ℕ} (b : Bounds held size) where
             ∙ ap (λ (x : List Entry). v .dropped ++ x) es;
         journal = v .shape .holds .bytes ∙ ap (areaOf size) es;
         kept = λ i. record { used = u i };
+        firsts = v .shape .firsts;
         numbers = λ s. one-number .frame (callOn (p .areas) s);
         adds = λ s e. same-entries b (here p v s e .next) ∙ ap₂ (added size) es (sym (entry-is (order p v s e) (p .areas)));
         keeps = λ s e. keeps-all (p .areas) s e;

@@ -73,6 +73,7 @@ module _ (m : Message) (c : Call) (t : Took m c) where
                     subst (Outside (kindNamed m c) (startOf m (c .sent)) (countOf m (c .sent)) (areaIn (m .tag) (c .areas))) (sym own)
                     (outside (kindNamed m c) (startOf m (c .sent)) (countOf m (c .sent)) (newIn m c) (areaIn (m .tag) (c .areas)) (r .run .held-all) (areas-long (c .areas) (fine c (t .heard) .areas) (m .tag)) (r .long));
                 others = λ tag n. ap (areaIn tag) (areas-left true w) ∙ put-other (held c) (entryFor (m .tag) (startOf m (c .sent)) (newIn m c)) (c .areas) tag n;
+                firsts = ap (λ (a : Areas). a .firsts) (areas-left true w);
                 query = λ q. areas-left false q;
               };
         }
@@ -136,5 +137,6 @@ module _ (m : Message) (c : Call) (t : Took m c) where
                 subst (λ (a : Areas). Outside (kindNamed m c) (startOf m (c .sent)) (countOf m (c .sent)) (areaIn (m .tag) (c .areas)) (areaIn (m .tag) a)) e
                 (record { before-it = λ i b. refl; behind-it = λ i b. refl; as-long = refl });
             others = λ tag n. ap (areaIn tag) (sym e);
+            firsts = ap (λ (a : Areas). a .firsts) (sym e);
             query = λ q. sym e;
           }

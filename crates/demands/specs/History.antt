@@ -115,6 +115,8 @@ module _ (board : Conduct) where
     -- and the account of these writes says the same, so each is done whole ("demand 3 counts whole writes")
     pub whole-writes : (tag : ℕ) → areaIn tag (p .areas) ≡ areaIn tag (account held (fresh held size) (p .standing-writes))
     pub accepted-alone : allAccepted (fresh held size) (p .standing-writes) ≡ true
+    -- the first numbers are those at fresh
+    pub firsts : p .areas .firsts ≡ held .firsts
     -- the journal holds the entries of the newest of these writes, older ones were dropped; 00 stands behind them
     pub dropped : List Entry
     pub newest : entered held (fresh held size) (p .standing-writes) ≡ dropped ++ entries (p .areas)

@@ -36,12 +36,14 @@ pub record Outside (k : Kind) (start count : ℕ) (area area′ : List ℕ) : Ty
   pub behind-it : (i : ℕ) → placeOf k start + count * k .unit ≤ i → getD area′ i 0 ≡ getD area i 0
   pub as-long : length area′ ≡ length area
 
--- nothing is changed but what a message names, neither the rest of its kind's area nor the area of another kind, and a query changes nothing
+-- nothing is changed but what a message names, neither the rest of its kind's area nor the area of another kind nor a setting, and a query changes
+-- nothing
 pub record OnlyNamed (board : Conduct) (m : Message) (c : Call) : Type 0 where
   pub outside :
       Outside (kindOf (held c) (m .tag)) (startOf m (c .sent)) (countOf m (c .sent)) (areaIn (m .tag) (c .areas))
       (areaIn (m .tag) (board .answer c .areas))
   pub others : (tag : ℕ) → (tag ≡ m .tag → ⊥) → areaIn tag (board .answer c .areas) ≡ areaIn tag (c .areas)
+  pub firsts : board .answer c .areas .firsts ≡ c .areas .firsts
   pub query : writes (m .does) ≡ false → board .answer c .areas ≡ c .areas
 
 -- "slots with a non-zero pattern" among those that a message names, before it

@@ -1,32 +1,34 @@
 -- The small board's history by computing, and where each broken board fails.
-use Prim.Native.Nat.{ℕ}
+use Prim.Native.Nat.{ℕ, suc, _-_}
 use mathlib.Core.Path.{_≡_, refl, sym, ap, ap₂, _∙_}
 use mathlib.Core.Bool.{Bool, true, cond, _&&_}
 use mathlib.Core.List.{List, [], _∷_}
 use native.Mathlib.Omega.{arith}
 use lib.ListN.{length, getD}
 use borrow.Author.Tests.{eq-eqb}
-use Rattle.kinds.specs.Kinds.{pointsTag, columnsTag}
+use Rattle.kinds.specs.Kinds.{pointsTag, columnsTag, kindOf, runOf}
 use Rattle.journal.specs.Journal.{Entry, encodes, added}
 use Rattle.calls.specs.declared.Kept.{Kept}
-use Rattle.calls.specs.Calls.{Areas, Call}
+use Rattle.calls.specs.Calls.{Areas, Sent, areaIn}
 use Rattle.refusals.specs.Refusals.{refusalOf}
-use Rattle.link.specs.Answer.{asked}
+use Rattle.link.specs.Answer.{held, asked}
+use Rattle.table.specs.declared.Message.{Message}
 use Rattle.table.specs.declared.Named.the-variants.{Known}
 use Rattle.table.specs.Table.{messageOf}
 use Rattle.demands.specs.Refused.{asksWrite}
 use Rattle.demands.specs.Survive.{Accepted}
-use Rattle.demands.proofs.Commands.{writing}
+use Rattle.demands.proofs.Commands.{writing, changingIntegers}
+use Rattle.demands.specs.Reading.{startOf, countOf}
 use Rattle.trials.proofs.Useless.{zero-bytes, made}
 use Rattle.trials.specs.Cases.{holding}
 use Rattle.demands.specs.History.{Conduct, Event, frame, stepBack, callOn, after, acceptedWrite, alone, entries, entryBy, account, Holds, EveryHistory}
-use Rattle.trials.specs.Broken.{lotCode, pointOne, twoPoints, clearOne, unknown, smallest, small, Worked, entersNew, clears, refusalWrites, forgets, takesNothing, entersAll, NotWhole, Broken}
+use Rattle.trials.specs.Broken.{lotCode, pointOne, twoPoints, twoIntegers, clearOne, unknown, smallest, small, Worked, entersNew, clears, refusalWrites, forgets, takesNothing, entersAll, NotWhole, Broken}
 use Rattle.trials.specs.Useless.{behindFirst, storesNothing, storesFirst, usedAll, usedMore}
 use Rattle.trials.proofs.Computing.{a-call}
 
 pub worked : Worked
 unfolding a-call
-worked = record { one-taken = refl; code-stays = refl; accounted = refl; both-slots = (refl, refl); all-taken = refl; none-left = refl; oldest-dropped = refl }
+worked = record { one-taken = refl; code-stays = refl; accounted = refl; both-slots = (refl, refl); all-taken = refl; none-left = refl; flag-set = refl; flag-taken = refl; integers-stay = refl; integers-taken = refl; oldest-dropped = refl }
 
 -- two histories
 abbrev written-back : List Event
@@ -43,8 +45,8 @@ abbrev due : Conduct → List Event → ℕ
 due board events = getD (alone board smallest (small board events .standing-writes) .columns) 0 0
 
 -- what a board that keeps the demand has come to
-kept-so : (board : Conduct) → EveryHistory board → (events : List Event) → Holds board (holding 2) 380 (small board events)
-kept-so board h events = h (holding 2) 380 (record { some-points = omega arith; points = omega arith }) (omega arith) (omega arith) events
+kept-so : (board : Conduct) → EveryHistory board → (events : List Event) → Holds board (holding 2) 580 (small board events)
+kept-so board h events = h (holding 2) 580 (record { some-points = omega arith; points = omega arith; integers = omega arith; flags = omega arith }) (omega arith) (omega arith) events
 
 -- a history whose first column is another
 fails : (board : Conduct) (events : List Event) (x y : ℕ) → there board events ≡ x → due board events ≡ y → (x ≡ y → ⊥) → EveryHistory board → ⊥
@@ -77,15 +79,20 @@ record Told : Type 0 where
   two-refused : refusalOf (callOn smallest twoPoints) ≡ 0
   two-asked : asksWrite (asked (callOn smallest twoPoints)) ≡ true
   two-known : messageOf (twoPoints .frame) ≡ Known writing
-  second-before : getD (behindFirst writing (callOn smallest twoPoints) (smallest .points)) 0 0 ≡ 0
-  both-due : (getD (account (holding 2) smallest (twoPoints ∷ []) .points) 0 0 ≡ 1)
-      × (getD (behindFirst writing (callOn smallest twoPoints) (account (holding 2) smallest (twoPoints ∷ []) .points)) 0 0 ≡ 1)
+  integers-refused : refusalOf (callOn smallest twoIntegers) ≡ 0
+  integers-asked : asksWrite (asked (callOn smallest twoIntegers)) ≡ true
+  integers-known : messageOf (twoIntegers .frame) ≡ Known changingIntegers
+  second-before : (getD (behindFirst writing (callOn smallest twoPoints) smallest) 0 0 ≡ 0)
+      × (getD (behindFirst changingIntegers (callOn smallest twoIntegers) smallest) 3 0 ≡ 0)
+  first-due : getD (account (holding 2) smallest (twoPoints ∷ []) .points) 0 0 ≡ 1
+  second-due : (getD (behindFirst writing (callOn smallest twoPoints) (account (holding 2) smallest (twoPoints ∷ []))) 0 0 ≡ 1)
+      × (getD (behindFirst changingIntegers (callOn smallest twoIntegers) (account (holding 2) smallest (twoIntegers ∷ []))) 3 0 ≡ 2)
   all-entered : acceptedWrite entersAll smallest pointOne ≡ true
   all-long : (length (encodes (entries (after entersAll smallest (frame pointOne)))) ≡ 85)
-      × (length (encodes (added 380 (entries smallest) (entryBy (holding 2) smallest pointOne))) ≡ 45)
-  all-used : (used-there usedAll ≡ 380) × (used-due usedAll ≡ 1720)
+      × (length (encodes (added 580 (entries smallest) (entryBy (holding 2) smallest pointOne))) ≡ 45)
+  all-used : (used-there usedAll ≡ 580) × (used-due usedAll ≡ 2720)
   one-more : (used-there usedMore ≡ 46) × (used-due usedMore ≡ 50)
-  entry-lost : (length (entries twice) ≡ 1) × (length (added 380 (entries once) (entryBy (holding 2) once clearOne)) ≡ 2)
+  entry-lost : (length (entries twice) ≡ 1) × (length (added 580 (entries once) (entryBy (holding 2) once clearOne)) ≡ 2)
 
 told : Told
 unfolding a-call
@@ -99,8 +106,12 @@ told =
       two-refused = refl;
       two-asked = refl;
       two-known = refl;
-      second-before = refl;
-      both-due = (refl, refl);
+      integers-refused = refl;
+      integers-asked = refl;
+      integers-known = refl;
+      second-before = (refl, refl);
+      first-due = refl;
+      second-due = (refl, refl);
       all-entered = refl;
       all-long = (refl, refl);
       all-used = (refl, refl);
@@ -108,38 +119,51 @@ told =
       entry-lost = (refl, refl);
     }
 
--- two points written to a fresh board
-abbrev first-call : Call
-first-call = callOn smallest twoPoints
+-- two points, and two integers, written to a fresh board
+is-two : Accepted 0x244 (callOn smallest twoPoints)
+is-two = record { message = writing; named = refl; known = told .two-known; number = told .two-refused; bytes = zero-bytes 580 }
 
-is-two : Accepted 0x244 first-call
-is-two = record { message = writing; named = refl; known = told .two-known; number = told .two-refused; bytes = zero-bytes 380 }
+is-integers : Accepted 0x24C (callOn smallest twoIntegers)
+is-integers =
+    record { message = changingIntegers; named = refl; known = told .integers-known; number = told .integers-refused; bytes = zero-bytes 580 }
 
-module _ (board : Conduct) (h : EveryHistory board) where
-  -- the write is accepted, since the table accepts it, and stands
-  is-accepted : board .answer first-call .number ≡ 0
-  is-accepted = kept-so board h [] .numbers twoPoints ∙ told .two-refused
+module _ (board : Conduct) (h : EveryHistory board) (s : Sent) (n : refusalOf (callOn smallest s) ≡ 0) (w : asksWrite (asked (callOn smallest s)) ≡ true) where
+  -- a write is accepted, since the table accepts it, and stands
+  is-accepted : board .answer (callOn smallest s) .number ≡ 0
+  is-accepted = kept-so board h [] .numbers s ∙ n
 
-  is-write : acceptedWrite board smallest twoPoints ≡ true
-  is-write = ap₂ (λ (x y : Bool). x && y) (eq-eqb _ 0 is-accepted) (told .two-asked)
+  is-write : acceptedWrite board smallest s ≡ true
+  is-write = ap₂ (λ (x y : Bool). x && y) (eq-eqb _ 0 is-accepted) w
 
-  -- so the points are what it says
-  points-due : board .answer first-call .areas .points ≡ account (holding 2) smallest (twoPoints ∷ []) .points
-  points-due =
-      kept-so board h (frame twoPoints ∷ []) .whole-writes pointsTag
-      ∙ ap (λ (b : Bool). account (holding 2) smallest (cond b (twoPoints ∷ []) []) .points) is-write
+  -- so the area of each kind is what it says
+  area-due : (tag : ℕ) → areaIn tag (board .answer (callOn smallest s) .areas) ≡ areaIn tag (account (holding 2) smallest (s ∷ []))
+  area-due tag =
+      kept-so board h (frame s ∷ []) .whole-writes tag
+      ∙ ap (λ (b : Bool). areaIn tag (account (holding 2) smallest (cond b (s ∷ []) []))) is-write
+
+  -- and a board that stores what it names behind the first does not keep it
+  behind-due : (m : Message) → behindFirst m (callOn smallest s) (board .answer (callOn smallest s) .areas) ≡ behindFirst m (callOn smallest s) smallest
+      → behindFirst m (callOn smallest s) smallest ≡ behindFirst m (callOn smallest s) (account (holding 2) smallest (s ∷ []))
+  behind-due m e =
+      let c = callOn smallest s in
+      sym e ∙ ap (runOf (kindOf (held c) (m .tag)) (suc (startOf m s)) (countOf m s - 1)) (area-due (m .tag))
 
 pub not-whole : NotWhole
-unfolding is-two
+unfolding is-two is-integers
 not-whole =
     record {
-      refuses-all = λ board n h. n first-call (is-accepted board h);
+      refuses-all = λ board n h. n (callOn smallest twoPoints) (is-accepted board h twoPoints (told .two-refused) (told .two-asked));
       stores-nothing = λ board n h.
-          let f : _≡_ {A = ℕ} 0 1 = ap (λ (s : List ℕ). getD s 0 0) (sym (n first-call) ∙ points-due board h) ∙ told .both-due .0 in
+          let f : _≡_ {A = ℕ} 0 1 =
+          ap (λ (s : List ℕ). getD s 0 0) (sym (n (callOn smallest twoPoints)) ∙ area-due board h twoPoints (told .two-refused) (told .two-asked) pointsTag) ∙ told .first-due in
           omega (arith, f);
       stores-first = λ board n h.
-          let e = sym (n first-call is-two) ∙ ap (behindFirst writing first-call) (points-due board h) in
-          let f : _≡_ {A = ℕ} 0 1 = sym (told .second-before) ∙ ap (λ (s : List ℕ). getD s 0 0) e ∙ told .both-due .1 in
+          let e = behind-due board h twoPoints (told .two-refused) (told .two-asked) writing (n (callOn smallest twoPoints) is-two) in
+          let f : _≡_ {A = ℕ} 0 1 = sym (told .second-before .0) ∙ ap (λ (s : List ℕ). getD s 0 0) e ∙ told .second-due .0 in
+          omega (arith, f);
+      stores-first-integer = λ board n h.
+          let e = behind-due board h twoIntegers (told .integers-refused) (told .integers-asked) changingIntegers (n (callOn smallest twoIntegers) is-integers) in
+          let f : _≡_ {A = ℕ} 0 2 = sym (told .second-before .1) ∙ ap (λ (s : List ℕ). getD s 3 0) e ∙ told .second-due .1 in
           omega (arith, f);
     }
 
@@ -158,8 +182,9 @@ broken =
           let f : _≡_ {A = ℕ} 1 2 = sym (told .entry-lost .0) ∙ ap length (v .adds clearOne (told .second-accepted)) ∙ told .entry-lost .1 in
           omega (arith, f);
       takes-nothing = fails takesNothing written-back 0x30 0 (told .takes-nothing .0) (told .takes-nothing .1) (λ q. omega (arith, q));
-      stores-first = not-whole .stores-first storesFirst (made .stores-first);
+      stores-first = not-whole .stores-first (storesFirst 0x244) (made .stores-first);
+      stores-first-integer = not-whole .stores-first-integer (storesFirst 0x24C) (made .stores-first-integer);
       stores-nothing = not-whole .stores-nothing storesNothing (made .stores-nothing);
-      used-all = invented usedAll 380 1720 (told .all-used .0) (told .all-used .1) (λ q. omega (arith, q));
+      used-all = invented usedAll 580 2720 (told .all-used .0) (told .all-used .1) (λ q. omega (arith, q));
       used-more = invented usedMore 46 50 (told .one-more .0) (told .one-more .1) (λ q. omega (arith, q));
     }

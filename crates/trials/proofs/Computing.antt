@@ -5,15 +5,16 @@ use Rattle.frames.specs.Frame.{shaped, sumTrue, sumOff, sumPasses, stationPasse
 use Rattle.finder.specs.Find.{findIn}
 use Rattle.kinds.specs.Kinds.{kindOf, holds, runOf, put}
 use Rattle.journal.specs.Journal.{encode, encodes, entryFits, frontOf, whole, entryAt, entriesIn, kept, added, areaOf, lastOf, othersOf, lastEntry, others, puts}
+use Rattle.flags.specs.Flags.{bitsOf, eights}
 use Rattle.points.specs.Axes.{axesFrom, axesOf}
 use Rattle.points.specs.Point.{positionsOf, pointOf, lengthOf, fillsOf, positionBytes, slotOf, slotsOf, positionsIn, pointIn, effectiveIn, positionDigits, pointDigits}
 use Rattle.table.specs.Table.{messageNumbered, messageOf, patternFits, patternsFit}
 use Rattle.messages.specs.Asked.{askedRows, judged, askedOf}
 use Rattle.listing.specs.Listing.{listed}
 use Rattle.queries.specs.Replies.{recordsDigits}
-use Rattle.refusals.specs.Refusals.{pointsFit, journalFits, recordsFit, axesFit, areaRows, frameRows, silentRows, silentOf, refusalOf, backRows, backRefusalOf}
+use Rattle.refusals.specs.Refusals.{pointsFit, variablesFit, journalFits, recordsFit, axesFit, areaRows, frameRows, silentRows, silentOf, refusalOf, backRows, backRefusalOf}
 use Rattle.link.specs.Answer.{answerOf, backOf}
 
 unfoldable pub a-call : Unit {0}
-unfolding isDigit worthOf byteOf laid shaped sumTrue sumOff sumPasses stationPasses replyOf findIn kindOf holds runOf put encode encodes entryFits frontOf whole entryAt entriesIn kept added areaOf lastOf othersOf lastEntry others puts axesFrom axesOf positionsOf pointOf lengthOf fillsOf positionBytes slotOf slotsOf positionsIn pointIn effectiveIn positionDigits pointDigits messageNumbered messageOf patternFits patternsFit askedRows judged askedOf listed recordsDigits pointsFit journalFits recordsFit axesFit areaRows frameRows silentRows silentOf refusalOf backRows backRefusalOf answerOf backOf
+unfolding isDigit worthOf byteOf laid shaped sumTrue sumOff sumPasses stationPasses replyOf findIn kindOf holds runOf put encode encodes entryFits frontOf whole entryAt entriesIn kept added areaOf lastOf othersOf lastEntry others puts axesFrom axesOf positionsOf pointOf lengthOf fillsOf positionBytes slotOf slotsOf positionsIn pointIn effectiveIn positionDigits pointDigits messageNumbered messageOf patternFits patternsFit askedRows judged askedOf listed recordsDigits bitsOf eights pointsFit variablesFit journalFits recordsFit axesFit areaRows frameRows silentRows silentOf refusalOf backRows backRefusalOf answerOf backOf
 a-call = tt

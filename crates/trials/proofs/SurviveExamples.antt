@@ -15,7 +15,7 @@ use Rattle.link.specs.Answer.{answerOf}
 use Rattle.demands.specs.Reading.{Host, sent, fitting}
 use Rattle.demands.specs.Survive.{Accepted}
 use Rattle.trials.specs.SurviveExamples.{codeCall, manyCall, replied, Examples}
-use Rattle.demands.proofs.Commands.{writing, clearing, changing}
+use Rattle.demands.proofs.Commands.{writing, clearing, changing, changingIntegers, setting}
 use Rattle.trials.proofs.Computing.{a-call}
 use Rattle.trials.proofs.Useless.{zero-bytes}
 use Rattle.demands.proofs.Survived.{every-digit-survives}
@@ -52,6 +52,8 @@ examples =
       point = record { message = writing; named = refl; known = refl; number = refl; bytes = zero-bytes 32768 };
       clear = record { message = clearing; named = refl; known = refl; number = refl; bytes = zero-bytes 32768 };
       many = many;
+      integers = record { message = changingIntegers; named = refl; known = refl; number = refl; bytes = zero-bytes 32768 };
+      flag = record { message = setting; named = refl; known = refl; number = refl; bytes = zero-bytes 32768 };
       code-back = refl;
       code-part = refl;
       code-within = refl;
@@ -59,6 +61,12 @@ examples =
       range-listed = refl;
       others-read = refl;
       clear-back = refl;
+      integers-back = refl;
+      integer-alone = refl;
+      not-held = refl;
+      flag-alone = refl;
+      flag-within = refl;
+      flag-first = refl;
       many-listed = many-listed;
       last-read = last-read;
       stands = refl;

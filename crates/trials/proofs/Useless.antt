@@ -1,40 +1,45 @@
 -- Each useless board is ruled out by what a call or two compute to; and there are such boards.
-use Prim.Native.Nat.{ℕ, zero, suc, _+_, _-_, _/_, _<_, _≤_}
+use Prim.Native.Nat.{ℕ, zero, suc, _+_, _-_, _*_, _/_, _<_, _≤_}
 use mathlib.Core.Path.{_≡_, refl, sym, ap, ap₂, _∙_, subst}
 use mathlib.Core.Bool.{Bool, true, false, cond}
 use mathlib.Core.List.{List, _++_}
 use native.Mathlib.Omega.{arith}
+use native.Mathlib.Nat.{mul-le-mul-right}
 use lib.Dec.{eqb}
 use lib.ListN.{length, take, drop, getD, replicate}
-use lib.Seq.{getD-take}
+use lib.Seq.{getD-take, length-take-le, take-all}
 use borrow.Author.Tests.{eq-eqb, eqb-false, le-leb}
 use Rattle.digits.specs.Digits.{worthOf, byteOf, digitsOf}
 use Rattle.digits.specs.Text.{text}
 use Rattle.digits.proofs.Laid.{take-laid}
 use Rattle.digits.proofs.Bools.{either}
 use Rattle.frames.specs.Frame.{normal, replyOf}
-use Rattle.kinds.specs.Kinds.{pointsOf, heldIn, holds, runOf, put}
-use Rattle.kinds.proofs.Known.{kind-points, within}
+use Rattle.kinds.specs.declared.Kind.{Kind}
+use Rattle.kinds.specs.declared.Firsts.{Firsts}
+use Rattle.kinds.specs.Kinds.{integersTag, kindOf, heldIn, holds, runOf, put}
+use Rattle.kinds.proofs.Known.{within}
+use Rattle.pairs.specs.Pairs.{digitsIn}
 use Rattle.journal.specs.Journal.{encodes, added}
-use Rattle.points.specs.Point.{effectiveIn, slotsOf}
+use Rattle.points.specs.Point.{effectiveIn}
 use Rattle.table.specs.declared.Message.{Message}
 use Rattle.table.specs.declared.Named.{Named}
 use Rattle.table.specs.declared.Named.the-variants.{Known}
 use Rattle.messages.specs.declared.Asked.{Asked}
-use Rattle.table.specs.Table.{messageOf}
+use Rattle.table.specs.Table.{messageNumbered, messageOf}
 use Rattle.calls.specs.declared.Kept.{Kept}
-use Rattle.calls.specs.Calls.{Areas, Call, Outcome, areasOf, fresh, lengthsOf}
+use Rattle.calls.specs.Calls.{Areas, Call, Outcome, fresh, lengthsOf, areaIn}
+use Rattle.calls.proofs.Tagged.{put-own}
 use Rattle.refusals.specs.Refusals.{refusalOf}
-use Rattle.link.specs.Answer.{held, asked, rest, writes, answerOf}
+use Rattle.link.specs.Answer.{held, asked, rest, writes, newBytes, answerOf}
 use Rattle.link.proofs.Answering.{accepted, frame-number}
-use Rattle.link.proofs.Carrying.{fine, slots-long}
+use Rattle.link.proofs.Carrying.{fine, areas-long, Writable}
 use Rattle.trials.specs.Cases.{holding, bench}
 use Rattle.demands.specs.History.{Conduct, entries, entrySaid}
-use Rattle.demands.specs.Reading.{content, startOf, countOf, Host, asking, effectiveOf}
+use Rattle.demands.specs.Reading.{content, startOf, countOf, restOf, Host, asking, asksRun, digitsFrom, kindIn, effectiveOf}
 use Rattle.demands.specs.Survive.{Accepted, effectiveNamed, EveryDigitSurvives}
-use Rattle.trials.specs.Useless.{behindFirst, StoresFirst, InventsCount, usedAfter, Board, Meets, outcomeBy, given, Useless, ShutOut, saying, firstOnly, parrot, storesFirst, fiveAlways, oneMore, usedAll, usedMore, Made}
+use Rattle.trials.specs.Useless.{behindFirst, StoresFirst, InventsCount, usedAfter, Board, Meets, outcomeBy, given, Useless, ShutOut, saying, handingOn, firstBytes, firstOnly, parrot, storesFirst, fiveAlways, oneMore, usedAll, usedMore, Made}
 use Rattle.trials.proofs.Computing.{a-call}
-use Rattle.demands.proofs.Commands.{writing, clearing, row-of, rows, named}
+use Rattle.demands.proofs.Commands.{writing, clearing, changingIntegers, row-of, rows}
 use Rattle.demands.proofs.Asking.{Took, took}
 use Rattle.demands.proofs.Written.{areas-left, wrote}
 use Rattle.demands.proofs.Runs.{put-apart}
@@ -42,7 +47,7 @@ use Rattle.demands.proofs.Survived.{every-digit-survives}
 
 -- a board of two points: asked for a test, for the count; point 1 written, points 1 and 2 written, point 1 cleared
 abbrev two : Areas
-two = fresh (holding 2) 380
+two = fresh (holding 2) 580
 
 abbrev test : Call
 test = bench two (text "!99200001234567829\r\n")
@@ -58,6 +63,10 @@ two-points = bench two (text "!9924400100201000000000000000000010100000000000000
 
 abbrev no-point : Call
 no-point = bench two (text "!99246001001@@\r\n")
+
+-- integers 200 and 201 set to 1 and 2
+abbrev two-integers : Call
+two-integers = bench two (text "!9924C000C8020000000100000002@@\r\n")
 
 -- a fresh journal is bytes
 pub zero-bytes : (n i : ℕ) → getD (replicate n 0) i 0 < 256
@@ -77,15 +86,20 @@ record Told : Type 0 where
   two-known : messageOf (two-points .sent .frame) ≡ Known writing
   none-refused : refusalOf no-point ≡ 0
   none-known : messageOf (no-point .sent .frame) ≡ Known clearing
-  second-stored : getD (behindFirst writing two-points (answerOf two-points .areas .points)) 0 0 ≡ 1
-  second-before : getD (behindFirst writing two-points (two .points)) 0 0 ≡ 0
+  second-stored : getD (behindFirst writing two-points (answerOf two-points .areas)) 0 0 ≡ 1
+  second-before : getD (behindFirst writing two-points two) 0 0 ≡ 0
+  integers-refused : refusalOf two-integers ≡ 0
+  integers-known : messageOf (two-integers .sent .frame) ≡ Known changingIntegers
+  integer-stored : getD (behindFirst changingIntegers two-integers (answerOf two-integers .areas)) 3 0 ≡ 2
+  integer-before : behindFirst changingIntegers two-integers two ≡ replicate 4 0
+  integers-said : (startOf changingIntegers (two-integers .sent) ≡ 200) × (countOf changingIntegers (two-integers .sent) ≡ 2) × (restOf changingIntegers (two-integers .sent) ≡ text "0000000100000002")
   first-stored : getD (answerOf two-points .areas .points) 0 0 ≡ 1
   one-counted : (effectiveNamed writing one-point ≡ 0) × (effectiveOf two ≡ 0) × (countOf writing (one-point .sent) ≡ 1)
   two-counted : (effectiveNamed writing two-points ≡ 0) × (countOf writing (two-points .sent) ≡ 2)
   none-counted : effectiveNamed clearing no-point ≡ 0
   one-said : replyOf normal 0x99 (text "208" ++ digitsOf 3 (effectiveOf (answerOf one-point .areas))) ≡ text "#99208001C0\r\n"
   used-all : usedAfter two-points ≡ 85
-  all-told : usedAll .answer two-points .areas .kept .used ≡ 380
+  all-told : usedAll .answer two-points .areas .kept .used ≡ 580
   more-told : usedMore .answer two-points .areas .kept .used ≡ 86
 
 told : Told
@@ -104,6 +118,11 @@ told =
       none-known = refl;
       second-stored = refl;
       second-before = refl;
+      integers-refused = refl;
+      integers-known = refl;
+      integer-stored = refl;
+      integer-before = refl;
+      integers-said = (refl, refl, refl);
       first-stored = refl;
       one-counted = (refl, refl, refl);
       two-counted = (refl, refl);
@@ -116,13 +135,17 @@ told =
 
 -- each write is accepted
 abbrev is-one : Accepted 0x244 one-point
-is-one = record { message = writing; named = refl; known = told .one-known; number = told .one-refused; bytes = zero-bytes 380 }
+is-one = record { message = writing; named = refl; known = told .one-known; number = told .one-refused; bytes = zero-bytes 580 }
 
 abbrev is-two : Accepted 0x244 two-points
-is-two = record { message = writing; named = refl; known = told .two-known; number = told .two-refused; bytes = zero-bytes 380 }
+is-two = record { message = writing; named = refl; known = told .two-known; number = told .two-refused; bytes = zero-bytes 580 }
 
 abbrev is-none : Accepted 0x246 no-point
-is-none = record { message = clearing; named = refl; known = told .none-known; number = told .none-refused; bytes = zero-bytes 380 }
+is-none = record { message = clearing; named = refl; known = told .none-known; number = told .none-refused; bytes = zero-bytes 580 }
+
+abbrev is-integers : Accepted 0x24C two-integers
+is-integers =
+    record { message = changingIntegers; named = refl; known = told .integers-known; number = told .integers-refused; bytes = zero-bytes 580 }
 
 -- the contract's outcome
 module _ (board : Board) (m : Meets board) (c : Call) where
@@ -131,8 +154,8 @@ module _ (board : Board) (m : Meets board) (c : Call) where
       ap (λ (n : ℕ). take n (board c .reply)) (m c .length-is) ∙ ap (take (length (answerOf c .text))) (m c .reply-is)
       ∙ take-laid (c .sent .reply) (answerOf c .text) _ refl
 
-  points : board c .areas .points ≡ answerOf c .areas .points
-  points = ap (λ (a : Areas). a .points) (m c .areas-are)
+  behind : (n : Message) → behindFirst n c (outcomeBy board c .areas) ≡ behindFirst n c (answerOf c .areas)
+  behind n = ap (behindFirst n c) (m c .areas-are)
 
   used : board c .answered .kept .used ≡ answerOf c .areas .kept .used
   used = ap (λ (k : Kept). k .used) (m c .kept-is)
@@ -151,7 +174,7 @@ left-used c a w =
 -- so its count is the true one
 same-outcome : (board : Board) → Meets board → (c : Call) → outcomeBy board c ≡ answerOf c
 same-outcome board m c =
-    let areas : outcomeBy board c .areas ≡ answerOf c .areas = λ i. areasOf (m c .areas-are i .points) (m c .areas-are i .columns) (m c .areas-are i .journal) (m c .kept-is i) in
+    let areas : outcomeBy board c .areas ≡ answerOf c .areas = λ i. handingOn (m c .kept-is i) (m c .areas-are i) in
     λ i. record { number = m c .number-is i; text = replied board m c i; areas = areas i }
 
 tells-true : (board : Board) (m : Meets board) (i : InventsCount (outcomeBy board))
@@ -179,11 +202,15 @@ useless =
           let f : _≡_ {A = ℕ} 0x30 0x38 = ap (λ (s : List ℕ). getD s 5 0) e in
           absurd (omega (arith, f));
       stores-nothing = λ board n m.
-          let f : _≡_ {A = ℕ} 1 0 = sym (told .first-stored) ∙ ap (λ (s : List ℕ). getD s 0 0) (sym (points board m two-points) ∙ n two-points) in
+          let f : _≡_ {A = ℕ} 1 0 = sym (told .first-stored) ∙ ap (λ (s : List ℕ). getD s 0 0) (sym (ap (λ (a : Areas). a .points) (m two-points .areas-are)) ∙ n two-points) in
           absurd (omega (arith, f));
       stores-first = λ board n m.
-          let e = ap (behindFirst writing two-points) (sym (points board m two-points)) ∙ n two-points is-two in
+          let e = sym (behind board m two-points writing) ∙ n two-points is-two in
           let f : _≡_ {A = ℕ} 1 0 = sym (told .second-stored) ∙ ap (λ (s : List ℕ). getD s 0 0) e ∙ told .second-before in
+          absurd (omega (arith, f));
+      stores-first-integer = λ board n m.
+          let e = sym (behind board m two-integers changingIntegers) ∙ n two-integers is-integers ∙ told .integer-before in
+          let f : _≡_ {A = ℕ} 2 0 = sym (told .integer-stored) ∙ ap (λ (s : List ℕ). getD s 3 0) e in
           absurd (omega (arith, f));
       invents-count = λ board i m. i .other (tells-true board m i);
       invents-used = λ board i m. i .other (used board m (i .call) ∙ left-used (i .call) (i .accepted) (i .is-write));
@@ -237,8 +264,42 @@ module _ (board : Conduct) (d : EveryDigitSurvives board) where
       let s : eqb (getD (drop 40 left) 0 0) 0 ≡ true = eq-eqb _ 0 z in
       either (λ (n : ℕ). n + (cond true 0 1 + 0) ≡ 2 → ⊥) (eqb (getD left 0 0) 0) (λ _ q. omega (arith, q)) (λ _ q. omega (arith, q)) (rw s at f)
 
+  -- after two integers were changed: what it says of the second is what stands there, and what was sent
+  abbrev changed : Areas
+  changed = board .answer two-integers .areas
+
+  same-firsts : changed .firsts ≡ two .firsts
+  same-firsts = d .others 0x24C two-integers is-integers .firsts
+
+  second-held : holds (kindIn integersTag changed) 201 1 ≡ true
+  unfolding holds kindOf
+  second-held = rw same-firsts
+
+  said-there : board .answer (asking changed (test .sent) false (asksRun (text "20E") 201 1)) .text
+      ≡ replyOf normal 0x99 (asksRun (text "20E") 201 1 ++ digitsIn (runOf (kindIn integersTag changed) 201 1 (changed .integers)))
+  said-there = d .tells 0x24C two-integers is-integers .integers 201 1 (omega arith) (omega arith) second-held .text (test .sent) is-host false
+
+  said-sent : board .answer (asking changed (test .sent) false (asksRun (text "20E") 201 1)) .text
+      ≡ replyOf normal 0x99 (asksRun (text "20E") 201 1 ++ text "00000002")
+  unfolding kindOf
+  said-sent =
+      let r = d .next 0x24C two-integers is-integers .integers refl .any-run 201 1 (omega arith) (omega arith) second-held in
+      let v = told .integers-said in
+      let e : digitsFrom 4 201 201 1 (r .digits) ≡ digitsFrom 4 200 201 1 (text "0000000100000002") =
+      r .in-place 201 1 (omega (arith, v .0)) (omega (arith, v .0, v .1)) (omega arith) (omega arith) refl
+      ∙ ap₂ (λ (x : ℕ) (y : List ℕ). digitsFrom 4 x 201 1 y) (v .0) (v .2) in
+      let f : r .digits ≡ text "00000002" = sym (take-all 8 (r .digits) (omega (arith, r .as-many))) ∙ e in
+      r .says .text (test .sent) is-host false ∙ ap (λ (x : List ℕ). replyOf normal 0x99 (asksRun (text "20E") 201 1 ++ x)) f
+
+  second-differs : runOf (kindIn integersTag changed) 201 1 (changed .integers) ≡ replicate 4 0 → ⊥
+  unfolding byteOf replyOf
+  second-differs z =
+      let e = sym said-sent ∙ said-there ∙ ap (λ (x : List ℕ). replyOf normal 0x99 (asksRun (text "20E") 201 1 ++ digitsIn x)) z in
+      let f : _≡_ {A = ℕ} 0x32 0x30 = ap (λ (t : List ℕ). getD t 20 0) e in
+      omega (arith, f)
+
 pub shut-out : ShutOut
-unfolding runOf worthOf
+unfolding runOf worthOf kindOf
 shut-out =
     record {
       refuses-all = λ board n d. n one-point (d .accepted 0x244 one-point is-one);
@@ -252,46 +313,56 @@ shut-out =
       stores-first = λ board n d.
           let e : getD (take 40 (drop 40 (left board d))) 0 0 ≡ 0 = ap (λ (s : List ℕ). getD s 0 0) (n two-points is-two) ∙ told .second-before in
           second-there board d (sym (getD-take 40 (drop 40 (left board d)) 0 0 (omega arith)) ∙ e);
+      stores-first-integer = λ board n d.
+          second-differs board d
+          (ap (λ (f : Firsts). runOf (kindOf (record { points = 2; firsts = f }) integersTag) 201 1 (changed board d .integers)) (same-firsts board d) ∙ n two-integers is-integers ∙ told .integer-before);
       invents-count = λ board i d. i .other (d .tells (i .id) (i .call) (i .accepted) .counted .text (i .host) (i .heard) (i .checked));
     }
 
--- the points that a 244H leaves where its first slot alone is stored: what it names behind that stays
-module _ (c : Call) (t : Took writing c) where
+-- what an accepted write leaves where its first thing alone is stored: what it names behind that stays
+module _ (m : Message) (c : Call) (t : Took m c) (w : writes (m .does) ≡ true) where
+  abbrev k : Kind
+  k = kindOf (held c) (m .tag)
+
   abbrev start : ℕ
-  start = startOf writing (c .sent)
+  start = startOf m (c .sent)
 
-  abbrev first-alone : List ℕ
-  first-alone = put (pointsOf (held c)) start (slotsOf 1 (rest c writing)) (c .areas .points)
+  run : Writable (held c) (content (c .sent)) m start (countOf m (c .sent))
+  run = wrote m c t w .run
 
-  stored-first : firstOnly c (asked c) (answerOf c) .areas .points ≡ first-alone
-  stored-first = ap (λ (x : Asked). firstOnly c x (answerOf c) .areas .points) (t .order) ∙ rw (t .answer)
-
-  in-reach : (1 ≤ start) × (start + countOf writing (c .sent) ≤ 1 + held c .points)
-  in-reach = within (pointsOf (held c)) start (countOf writing (c .sent)) (rw (kind-points (held c)) at (wrote writing c t refl .run .run .held-all))
-
-  first-held : holds (pointsOf (held c)) start 1 ≡ true
+  first-held : holds k start 1 ≡ true
   unfolding holds
   first-held =
-      rw (
-        le-leb 1 start (in-reach .0),
-        le-leb (start + 1) (1 + held c .points) (omega (arith, in-reach .1, wrote writing c t refl .run .run .some)),
-      )
+      let v = within k start (countOf m (c .sent)) (run .run .held-all) in
+      rw (le-leb (k .first) start (v .0), le-leb (start + 1) (k .first + k .held) (omega (arith, v .1, run .run .some)))
 
-  behind-stays : behindFirst writing c (firstOnly c (asked c) (answerOf c) .areas .points) ≡ behindFirst writing c (c .areas .points)
+  first-long : length (firstBytes c m (countOf m (c .sent))) ≡ 1 * k .unit
+  first-long =
+      let n : 1 * k .unit ≤ countOf m (c .sent) * k .unit = mul-le-mul-right (k .unit) (run .run .some) in
+      length-take-le (k .unit) (newBytes (m .does) (k .unit) (countOf m (c .sent)) (rest c m)) (omega (arith, n, run .long)) ∙ omega arith
+
+  stored-first : areaIn (m .tag) (firstOnly (m .id) c (asked c) (answerOf c) .areas) ≡ put k start (firstBytes c m (countOf m (c .sent))) (areaIn (m .tag) (c .areas))
+  stored-first =
+      ap (λ (x : Asked). areaIn (m .tag) (firstOnly (m .id) c x (answerOf c) .areas)) (t .order)
+      ∙ rw (t .answer, eq-eqb (m .id) (m .id) refl)
+      (put-own (held c) start 1 (firstBytes c m (countOf m (c .sent))) (c .areas) (m .tag) (omega arith) first-held)
+
+  behind-stays : behindFirst m c (firstOnly (m .id) c (asked c) (answerOf c) .areas) ≡ behindFirst m c (c .areas)
   behind-stays =
-      ap (behindFirst writing c) stored-first
-      ∙ put-apart (pointsOf (held c)) start 1 (slotsOf 1 (rest c writing)) (c .areas .points) first-held (omega (arith, fine c (t .heard) .points .whole-slots))
-      (slots-long 1 (rest c writing))
+      ap (runOf k (suc start) (countOf m (c .sent) - 1)) stored-first
+      ∙ put-apart k start 1 (firstBytes c m (countOf m (c .sent))) (areaIn (m .tag) (c .areas)) first-held
+      (areas-long (c .areas) (fine c (t .heard) .areas) (m .tag))
+      first-long
       (suc start)
-      (countOf writing (c .sent) - 1)
-      (omega arith)
+      (countOf m (c .sent) - 1)
+      (omega (arith, within k start 1 first-held .0))
       (rw (le-leb (start + 1) (suc start) (omega arith)))
 
-stays : StoresFirst (storesFirst .answer)
-stays c a =
-    let e = row-of (c .sent .frame) 0x244 writing (a .known) (a .named) (rows .0) in
-    subst (λ (x : Message). behindFirst x c (firstOnly c (asked c) (answerOf c) .areas .points) ≡ behindFirst x c (c .areas .points)) (sym e)
-    (behind-stays c (subst (λ (x : Message). Took x c) e (is-taken c a)))
+stays : (id : ℕ) (r : Message) → messageNumbered id ≡ Known r → writes (r .does) ≡ true → StoresFirst id (storesFirst id .answer)
+stays id r n w c a =
+    let e = row-of (c .sent .frame) id r (a .known) (a .named) n in
+    subst (λ (x : ℕ). behindFirst (a .message) c (firstOnly x c (asked c) (answerOf c) .areas) ≡ behindFirst (a .message) c (c .areas)) (a .named)
+    (behind-stays (a .message) c (is-taken c a) (ap (λ (x : Message). writes (x .does)) e ∙ w))
 
 -- five is told, and two, where there is one
 five-told : fiveAlways .answer (countOn (fiveAlways .answer one-point .areas)) .text ≡ text "#99208005C4\r\n"
@@ -343,7 +414,8 @@ made =
           λ i. record { number = answer c .number; text = t i; areas = answer c .areas };
       same-reply = λ c d p q. said-same c p ∙ sym (said-same d q);
       stores-nothing = λ c. refl;
-      stores-first = stays;
+      stores-first = stays 0x244 writing (rows .0) refl;
+      stores-first-integer = stays 0x24C changingIntegers (rows .3) refl;
       five-always = invents (fiveAlways .answer) _ five-left five-told (λ e. let f : _≡_ {A = ℕ} 0x35 0x31 = ap (λ (s : List ℕ). getD s 8 0) e in omega (arith, f));
       one-more = invents (oneMore .answer) _ two-left two-told (λ e. let f : _≡_ {A = ℕ} 0x32 0x31 = ap (λ (s : List ℕ). getD s 8 0) e in omega (arith, f));
       used-all =
@@ -352,7 +424,7 @@ made =
             call = two-points;
             accepted = is-two;
             is-write = refl;
-            other = λ e. let f : _≡_ {A = ℕ} 380 85 = sym (told .all-told) ∙ e ∙ told .used-all in omega (arith, f);
+            other = λ e. let f : _≡_ {A = ℕ} 580 85 = sym (told .all-told) ∙ e ∙ told .used-all in omega (arith, f);
           };
       used-more =
           record {

@@ -40,9 +40,16 @@ unknown = send "!99299@@\r\n"
 abbrev pub twoPoints : Sent
 twoPoints = send "!9924400100201000000000000000000010100000000000000000001@@\r\n"
 
+-- integers 200 and 201 set to 1 and 2; flag 607 set
+abbrev pub twoIntegers : Sent
+twoIntegers = send "!9924C000C8020000000100000002@@\r\n"
+
+abbrev pub oneFlag : Sent
+oneFlag = send "!9924B00025F1@@\r\n"
+
 -- two points and the least journal, from fresh
 abbrev pub smallest : Areas
-smallest = fresh (holding 2) 380
+smallest = fresh (holding 2) 580
 
 abbrev pub small : Conduct → List Event → Past
 small board events = past board (record { areas = smallest; standing-writes = [] }) events
@@ -62,8 +69,13 @@ pub record Worked : Type 0 where
   -- a second one takes away the first, and all is fresh; a third is refused
   pub all-taken : small ours (frame lotCode ∷ frame pointOne ∷ stepBack ∷ stepBack ∷ []) .areas ≡ smallest
   pub none-left : backOf (small ours (frame lotCode ∷ frame pointOne ∷ stepBack ∷ stepBack ∷ []) .areas) .number ≡ 9
-  -- nine writes of 45 bytes each: the journal has room for eight
-  pub oldest-dropped : length (entries (small ours (replicate 9 (frame clearOne)) .areas)) ≡ 8
+  -- a flag set over two integers: a step back takes the flag away, a second one the integers
+  pub flag-set : getD (small ours (frame twoIntegers ∷ frame oneFlag ∷ []) .areas .flags) 7 0 ≡ 1
+  pub flag-taken : small ours (frame twoIntegers ∷ frame oneFlag ∷ stepBack ∷ []) .areas .flags ≡ replicate 300 0
+  pub integers-stay : take 8 (small ours (frame twoIntegers ∷ frame oneFlag ∷ stepBack ∷ []) .areas .integers) ≡ 0 ∷ 0 ∷ 0 ∷ 1 ∷ 0 ∷ 0 ∷ 0 ∷ 2 ∷ []
+  pub integers-taken : small ours (frame twoIntegers ∷ frame oneFlag ∷ stepBack ∷ stepBack ∷ []) .areas ≡ smallest
+  -- thirteen writes of 45 bytes each: the journal has room for twelve
+  pub oldest-dropped : length (entries (small ours (replicate 13 (frame clearOne)) .areas)) ≡ 12
 
 -- every column set to a byte
 abbrev pub columnsAll : ℕ → Areas → Areas
@@ -99,7 +111,8 @@ takesNothing = record { answer = answerOf; back = λ a. unanswered (backOf a .nu
 pub record NotWhole : Type 0 where
   pub refuses-all : (board : Conduct) → RefusesAll (board .answer) → EveryHistory board → ⊥
   pub stores-nothing : (board : Conduct) → StoresNothing (board .answer) → EveryHistory board → ⊥
-  pub stores-first : (board : Conduct) → StoresFirst (board .answer) → EveryHistory board → ⊥
+  pub stores-first : (board : Conduct) → StoresFirst 0x244 (board .answer) → EveryHistory board → ⊥
+  pub stores-first-integer : (board : Conduct) → StoresFirst 0x24C (board .answer) → EveryHistory board → ⊥
 
 -- a write of points that enters all points: the journal then holds fewer writes than it should
 abbrev pub moreEntered : Call → Asked → Outcome → Outcome
@@ -125,7 +138,8 @@ pub record Broken : Type 0 where
   pub forgets-entries : EveryHistory forgets → ⊥
   pub takes-nothing : EveryHistory takesNothing → ⊥
   -- boards that journal and step back as they should, and don't do writes whole
-  pub stores-first : EveryHistory storesFirst → ⊥
+  pub stores-first : EveryHistory (storesFirst 0x244) → ⊥
+  pub stores-first-integer : EveryHistory (storesFirst 0x24C) → ⊥
   pub stores-nothing : EveryHistory storesNothing → ⊥
   -- a used length that is not that of the entries
   pub used-all : EveryHistory usedAll → ⊥

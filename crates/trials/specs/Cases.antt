@@ -25,9 +25,9 @@ use Rattle.messages.specs.Asked.{askedOf}
 use Rattle.calls.specs.Calls.{Areas, Sent, Call, fresh, lengthsOf, putIn}
 use Rattle.link.specs.Answer.{answerOf}
 
--- what a board of so many points holds
+-- what a board of so many points holds, with the bench's first integer 200 and first flag 600 (02, a)
 abbrev pub holding : ℕ → Held
-holding n = record { points = n }
+holding n = record { points = n; firsts = record { integer = 200; flag = 600 } }
 
 -- "station 99H, N = 500, all eight axes, zero records, journal 32,768, fresh" ("Bench listing")
 abbrev pub blank : Areas

@@ -15,7 +15,7 @@ use Rattle.trials.specs.Cases.{bench, blank}
 use Rattle.demands.specs.History.{ours, Event, frame, stepBack, callOn}
 use Rattle.demands.specs.Reading.{Host, untouched}
 use Rattle.demands.specs.Survive.{Accepted}
-use Rattle.trials.specs.Broken.{send, lotCode, pointOne, clearOne, count, small}
+use Rattle.trials.specs.Broken.{send, lotCode, pointOne, clearOne, count, twoIntegers, oneFlag, small}
 
 -- each to a fresh bench: a 24EH of the lot code 0047, the bench listing's 244H of point 1, a 246H of point 1, a 244H of 45 one-axis points
 abbrev pub codeCall : Call
@@ -29,6 +29,13 @@ clearCall = callOn blank clearOne
 
 abbrev pub manyCall : Call
 manyCall = bench blank (text "!9924400102D" ++ (joined (replicate 44 (text "0100000000000000000001")) ++ text "010000000000000000002D@@\r\n"))
+
+-- integers 200 and 201 set to 1 and 2, and flag 607 set (02, a)
+abbrev pub integersCall : Call
+integersCall = callOn blank twoIntegers
+
+abbrev pub flagCall : Call
+flagCall = callOn blank oneFlag
 
 -- column 302 changed, and a history of a small board: the lot code, column 302, a step back, point 1, the count
 abbrev pub oneColumn : Sent
@@ -47,6 +54,8 @@ pub record Examples : Type 0 where
   pub point : Accepted 0x244 pointCall
   pub clear : Accepted 0x246 clearCall
   pub many : Accepted 0x244 manyCall
+  pub integers : Accepted 0x24C integersCall
+  pub flag : Accepted 0x24B flagCall
   -- the frame of proved case 7; columns 301 and 302 of these; columns 300 to 305
   pub code-back : replied (answerOf codeCall .areas) (text "!992100012C0490\r\n") ≡ text "#992100012C043030343729\r\n"
   pub code-part : replied (answerOf codeCall .areas) (text "!992100012D02@@\r\n") ≡ replyOf normal 0x99 (text "2100012D023034")
@@ -58,6 +67,14 @@ pub record Examples : Type 0 where
       replied (answerOf pointCall .areas) (text "!99209001010@@\r\n") ≡ replyOf normal 0x99 (text "20900100103001E001E00640000C350FFFFFFFF")
   pub others-read : replied (answerOf pointCall .areas) (text "!992100013602@@\r\n") ≡ replyOf normal 0x99 (text "21000136020000")
   pub clear-back : replied (answerOf clearCall .areas) (text "!99209001001@@\r\n") ≡ replyOf normal 0x99 (text "209000")
+  -- a 20EH of integers 200 and 201, of 201 alone, and of 199 to 201, which is not held from its first number on
+  pub integers-back : replied (answerOf integersCall .areas) (text "!9920E000C802@@\r\n") ≡ replyOf normal 0x99 (text "20E000C8020000000100000002")
+  pub integer-alone : replied (answerOf integersCall .areas) (text "!9920E000C901@@\r\n") ≡ replyOf normal 0x99 (text "20E000C90100000002")
+  pub not-held : answerOf (bench (answerOf integersCall .areas) (text "!9920E000C703@@\r\n")) .number ≡ 106
+  -- a 20DH of flag 607 alone, of flags 600 to 608, and of 607 to 615: it stands in bit 0, in bit 7 and in bit 0, and bits beyond the count are 0
+  pub flag-alone : replied (answerOf flagCall .areas) (text "!9920D00025F0001@@\r\n") ≡ replyOf normal 0x99 (text "20D00025F000101")
+  pub flag-within : replied (answerOf flagCall .areas) (text "!9920D0002580009@@\r\n") ≡ replyOf normal 0x99 (text "20D00025800098000")
+  pub flag-first : replied (answerOf flagCall .areas) (text "!9920D00025F0009@@\r\n") ≡ replyOf normal 0x99 (text "20D00025F00090100")
   -- of the 45 points a 209H lists 40, and the last one is read alone
   pub many-listed : take 9 (replied (answerOf manyCall .areas) (text "!9920900102D@@\r\n")) ≡ text "#99209028"
   pub last-read : replied (answerOf manyCall .areas) (text "!9920902D001@@\r\n") ≡ replyOf normal 0x99 (text "20900102D010000000000000000002D")

@@ -10,15 +10,15 @@ use Rattle.digits.specs.Digits.{digitsOf}
 use Rattle.digits.specs.Laid.{laid}
 use Rattle.digits.specs.Text.{text}
 use Rattle.frames.specs.Frame.{normal, replyOf}
-use Rattle.kinds.specs.Kinds.{pointsOf, runOf, put}
-use Rattle.journal.specs.Journal.{encodes, added}
-use Rattle.points.specs.Point.{slotsOf}
+use Rattle.kinds.specs.Kinds.{kindOf, runOf}
+use Rattle.journal.specs.Journal.{encodes, added, entryFor}
 use Rattle.table.specs.declared.Message.{Message}
 use Rattle.messages.specs.declared.Asked.{Asked}
 use Rattle.messages.specs.declared.Asked.the-variants.{Refused, Order}
-use Rattle.calls.specs.Calls.{Areas, Sent, Call, Outcome, areasOf}
+use Rattle.calls.specs.declared.Kept.{Kept}
+use Rattle.calls.specs.Calls.{Areas, Sent, Call, Outcome, areasOf, areaIn, putIn}
 use Rattle.link.specs.declared.Answered.{Answered}
-use Rattle.link.specs.Answer.{held, asked, rest, writes, unanswered, answerOf, backOf}
+use Rattle.link.specs.Answer.{held, asked, rest, writes, newBytes, unanswered, answerOf, backOf}
 use Rattle.link.specs.Contract.{Answers}
 use Rattle.demands.specs.Refused.{asksWrite}
 use Rattle.demands.specs.History.{Conduct, entries, entryBy}
@@ -37,13 +37,13 @@ SameReply answer = (c d : Call) → answer c .number ≡ 0 → answer d .number 
 abbrev pub StoresNothing : (Call → Outcome) → Type 0
 StoresNothing answer = (c : Call) → answer c .areas .points ≡ c .areas .points
 
--- "one that stores a bulk write's first point and only acknowledges the rest": the slots that a 244H names, from the second on, stay
-abbrev pub behindFirst : Message → Call → List ℕ → List ℕ
-behindFirst m c points = runOf (pointsOf (held c)) (suc (startOf m (c .sent))) (countOf m (c .sent) - 1) points
+-- "one that stores a bulk write's first point and only acknowledges the rest": what a 244H names, from the second on, stays; and so what a 24CH names
+-- (02, a: "one that stores a 24CH's first integer only")
+abbrev pub behindFirst : Message → Call → Areas → List ℕ
+behindFirst m c a = runOf (kindOf (held c) (m .tag)) (suc (startOf m (c .sent))) (countOf m (c .sent) - 1) (areaIn (m .tag) a)
 
-abbrev pub StoresFirst : (Call → Outcome) → Type 0
-StoresFirst answer =
-    (c : Call) (a : Accepted 0x244 c) → behindFirst (a .message) c (answer c .areas .points) ≡ behindFirst (a .message) c (c .areas .points)
+abbrev pub StoresFirst : ℕ → (Call → Outcome) → Type 0
+StoresFirst id answer = (c : Call) (a : Accepted id c) → behindFirst (a .message) c (answer c .areas) ≡ behindFirst (a .message) c (c .areas)
 
 -- "one that invents the 208H count": asked for it after some accepted frame, it does not tell how many of the slots that it left are effective
 pub record InventsCount (answer : Call → Outcome) : Type 0 where
@@ -77,6 +77,10 @@ pub record Given : Type 0 where
 abbrev pub Board : Type 0
 Board = Call → Given
 
+-- areas with other kept numbers
+abbrev pub handingOn : Kept → Areas → Areas
+handingOn kept a = areasOf (a .points) (a .columns) (a .integers) (a .flags) (a .journal) kept (a .firsts)
+
 -- it meets the contract of `answer` for every call
 abbrev pub Meets : Board → Type 0
 Meets board = (c : Call) → Answers c (board c .answered) (board c .areas) (board c .reply)
@@ -87,7 +91,7 @@ outcomeBy board c =
     record {
       number = board c .answered .number;
       text = take (board c .answered .length) (board c .reply);
-      areas = areasOf (board c .areas .points) (board c .areas .columns) (board c .areas .journal) (board c .answered .kept);
+      areas = handingOn (board c .answered .kept) (board c .areas);
     }
 
 -- a board that gives an outcome: the reply laid over the front of the reply area
@@ -105,16 +109,18 @@ pub record Useless : Type 0 where
   pub refuses-all : (board : Board) → RefusesAll (outcomeBy board) → Meets board → ⊥
   pub same-reply : (board : Board) → SameReply (outcomeBy board) → Meets board → ⊥
   pub stores-nothing : (board : Board) → StoresNothing (outcomeBy board) → Meets board → ⊥
-  pub stores-first : (board : Board) → StoresFirst (outcomeBy board) → Meets board → ⊥
+  pub stores-first : (board : Board) → StoresFirst 0x244 (outcomeBy board) → Meets board → ⊥
+  pub stores-first-integer : (board : Board) → StoresFirst 0x24C (outcomeBy board) → Meets board → ⊥
   pub invents-count : (board : Board) → InventsCount (outcomeBy board) → Meets board → ⊥
   pub invents-used : (board : Board) → InventsUsed (outcomeBy board) → Meets board → ⊥
 
--- "demand 2 shuts out all three", the board that stores the first point only, and the one that invents the count: "slots are counted"
+-- "demand 2 shuts out all three", the boards that store the first point or integer only, and the one that invents the count: "slots are counted"
 pub record ShutOut : Type 0 where
   pub refuses-all : (board : Conduct) → RefusesAll (board .answer) → EveryDigitSurvives board → ⊥
   pub same-reply : (board : Conduct) → SameReply (board .answer) → EveryDigitSurvives board → ⊥
   pub stores-nothing : (board : Conduct) → StoresNothing (board .answer) → EveryDigitSurvives board → ⊥
-  pub stores-first : (board : Conduct) → StoresFirst (board .answer) → EveryDigitSurvives board → ⊥
+  pub stores-first : (board : Conduct) → StoresFirst 0x244 (board .answer) → EveryDigitSurvives board → ⊥
+  pub stores-first-integer : (board : Conduct) → StoresFirst 0x24C (board .answer) → EveryDigitSurvives board → ⊥
   pub invents-count : (board : Conduct) → InventsCount (board .answer) → EveryDigitSurvives board → ⊥
 
 -- such boards, each honest in all that is not its defect
@@ -124,12 +130,16 @@ honestBut change = record { answer = λ c. change c (answerOf c); back = backOf 
 abbrev pub saying : List ℕ → Outcome → Outcome
 saying said o = record { number = o .number; text = said; areas = o .areas }
 
-abbrev pub storing : List ℕ → List ℕ → Outcome → Outcome
-storing points columns o = record { number = o .number; text = o .text; areas = areasOf points columns (o .areas .journal) (o .areas .kept) }
+abbrev pub storing : Areas → Outcome → Outcome
+storing a o =
+    record {
+      number = o .number;
+      text = o .text;
+      areas = areasOf (a .points) (a .columns) (a .integers) (a .flags) (o .areas .journal) (o .areas .kept) (o .areas .firsts);
+    }
 
 abbrev pub handing : ℕ → Outcome → Outcome
-handing used o =
-    record { number = o .number; text = o .text; areas = areasOf (o .areas .points) (o .areas .columns) (o .areas .journal) (record { used = used }) }
+handing used o = record { number = o .number; text = o .text; areas = handingOn (record { used = used }) (o .areas) }
 
 -- in what is accepted alone, and in accepted writes alone
 abbrev pub whenAccepted : Call → (Outcome → Outcome) → Outcome → Outcome
@@ -138,13 +148,14 @@ whenAccepted c change o = cond (eqb (o .number) 0) (change o) o
 abbrev pub whenWritten : Call → (Outcome → Outcome) → Outcome → Outcome
 whenWritten c change o = cond (eqb (o .number) 0 && asksWrite (asked c)) (change o) o
 
--- a 244H that is accepted stores the slot of its first point alone
-abbrev pub firstOnly : Call → Asked → Outcome → Outcome
-firstOnly c (Refused number) o = o
-firstOnly c (Order m start count) o =
-    cond (eqb (m .id) 0x244 && eqb (o .number) 0)
-    (storing (put (pointsOf (held c)) start (slotsOf 1 (rest c m)) (c .areas .points)) (o .areas .columns) o)
-    o
+-- a message of an ID that is accepted stores the bytes of the first thing that it names alone
+abbrev pub firstBytes : Call → Message → ℕ → List ℕ
+firstBytes c m count = take (kindOf (held c) (m .tag) .unit) (newBytes (m .does) (kindOf (held c) (m .tag) .unit) count (rest c m))
+
+abbrev pub firstOnly : ℕ → Call → Asked → Outcome → Outcome
+firstOnly id c (Refused number) o = o
+firstOnly id c (Order m start count) o =
+    cond (eqb (m .id) id && eqb (o .number) 0) (storing (putIn (held c) (entryFor (m .tag) start (firstBytes c m count)) (c .areas)) o) o
 
 -- a 208H that is accepted tells a given count
 abbrev pub tells : ℕ → Call → Asked → Outcome → Outcome
@@ -159,10 +170,10 @@ abbrev pub parrot : Conduct
 parrot = honestBut (λ c o. whenAccepted c (saying (text "#9920000123456782B\r\n")) o)
 
 abbrev pub storesNothing : Conduct
-storesNothing = honestBut (λ c o. storing (c .areas .points) (c .areas .columns) o)
+storesNothing = honestBut (λ c o. storing (c .areas) o)
 
-abbrev pub storesFirst : Conduct
-storesFirst = honestBut (λ c o. firstOnly c (asked c) o)
+abbrev pub storesFirst : ℕ → Conduct
+storesFirst id = honestBut (λ c o. firstOnly id c (asked c) o)
 
 -- five, and one more than there are
 abbrev pub fiveAlways : Conduct
@@ -184,7 +195,8 @@ pub record Made : Type 0 where
   pub refuses-all : RefusesAll (refuser .answer)
   pub same-reply : SameReply (parrot .answer)
   pub stores-nothing : StoresNothing (storesNothing .answer)
-  pub stores-first : StoresFirst (storesFirst .answer)
+  pub stores-first : StoresFirst 0x244 (storesFirst 0x244 .answer)
+  pub stores-first-integer : StoresFirst 0x24C (storesFirst 0x24C .answer)
   pub five-always : InventsCount (fiveAlways .answer)
   pub one-more : InventsCount (oneMore .answer)
   pub used-all : InventsUsed (usedAll .answer)
