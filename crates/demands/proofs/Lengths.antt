@@ -12,7 +12,7 @@ use Rattle.digits.specs.Digits.{numberOf}
 use Rattle.digits.proofs.Bools.{either}
 use Rattle.frames.specs.Frame.{normal, error, threeOf}
 use Rattle.frames.proofs.Closing.{length-reply}
-use Rattle.kinds.specs.Kinds.{kindOf, placeOf}
+use Rattle.kinds.specs.Kinds.{kindOf, placeOf, runArea}
 use Rattle.points.specs.Axes.{axesOf}
 use Rattle.points.proofs.Ones.{at-most}
 use Rattle.table.specs.declared.Action.{Action}
@@ -27,7 +27,7 @@ use Rattle.queries.proofs.Texts.{head-repeating, head-alone, length-run, length
 use Rattle.calls.specs.Calls.{Call, Outcome}
 use Rattle.refusals.specs.Refusals.{silentOf}
 use Rattle.link.specs.Answer.{held, asked, rest, saidBy, textOf}
-use Rattle.link.specs.Contract.{Heard, runArea}
+use Rattle.link.specs.Contract.{Heard}
 use Rattle.link.proofs.Handling as handling
 use Rattle.demands.specs.Replied.{ReplyFits}
 use Rattle.demands.proofs.Refused.{answer-either}

@@ -15,7 +15,7 @@ use Rattle.digits.proofs.Laid.{part-rest}
 use Rattle.frames.specs.Frame.{contentIn}
 use Rattle.kinds.specs.declared.Kind.{Kind}
 use Rattle.kinds.specs.declared.Held.{Held}
-use Rattle.kinds.specs.Kinds.{pointsTag, columnsTag, integersTag, flagsTag, pointsOf, integersOf, flagsOf, kindOf, holds, placeOf, sizeOf}
+use Rattle.kinds.specs.Kinds.{pointsTag, columnsTag, integersTag, flagsTag, pointsOf, integersOf, flagsOf, kindOf, holds, placeOf, sizeOf, runArea}
 use Rattle.pairs.specs.Pairs.{bytesIn}
 use Rattle.kinds.proofs.Known.{kind-points, kind-columns, kind-integers, kind-flags, tag-of, sized, within, few, room}
 use Rattle.points.specs.Point.{fillsOf, slotsOf}
@@ -32,7 +32,7 @@ use Rattle.writes.specs.Writes.{Ready, Written}
 use Rattle.calls.specs.declared.Kept.{Kept}
 use Rattle.calls.specs.Calls.{Areas, Call, areasOf, areaIn, written}
 use Rattle.link.specs.Answer.{held, asked, rest, writes, newBytes, saidBy, areasAfter}
-use Rattle.link.specs.Contract.{Heard, runArea}
+use Rattle.link.specs.Contract.{Heard}
 use Rattle.link.proofs.Carrying.{Fine, fine, areas-long, Judged, judged-so, Named, Writable, writable, content-long}
 use Rattle.link.proofs.Outcomes.{ready, replacing, written-so}
 

@@ -1,12 +1,9 @@
 -- The contract of each public call: one record of equations that determines every number and every lent byte.
 use Prim.Native.Nat.{ℕ}
 use mathlib.Core.Path.{_≡_}
-use mathlib.Core.Bool.{cond}
 use mathlib.Core.List.{List}
-use lib.Dec.{eqb}
 use lib.ListN.{length}
 use Rattle.digits.specs.Laid.{laid}
-use Rattle.kinds.specs.Kinds.{integersTag}
 use Rattle.calls.specs.Calls.{Areas, Call}
 use Rattle.link.specs.declared.Answered.{Answered}
 use Rattle.link.specs.declared.Back.{Back}
@@ -19,10 +16,6 @@ use Rattle.link.specs.Answer.{asked, answerOf, backOf}
 pub record Heard (c : Call) (m : Message) (start count : ℕ) : Type 0 where
   pub silent-0 : silentOf c ≡ 0
   pub order : asked c ≡ Order m start count
-
--- the area of a message that reads or changes a run, by its tag: integers, else columns
-abbrev pub runArea : ℕ → List ℕ → List ℕ → List ℕ
-runArea tag columns integers = cond (eqb tag integersTag) integers columns
 
 -- what an answer gives and leaves is the outcome; the reply is laid over the front of the reply area, and what is beyond it stays
 pub record Answers (c : Call) (r : Answered) (areas′ : Areas) (reply′ : List ℕ) : Type 0 where

@@ -14,38 +14,31 @@ use kinds::held_in;
 use messages::Asked;
 use messages::content;
 use messages::judge;
+use queries::read_run;
 use queries::reply_axes;
 use queries::reply_count;
 use queries::reply_flags;
 use queries::reply_head;
 use queries::reply_list;
-use queries::reply_run;
 use queries::reply_same;
 use refusals::back_refusal;
 use refusals::silent;
 use table::Action;
 use table::Message;
-use writes::change;
+use writes::change_run;
 use writes::clear;
 use writes::set_flag;
 use writes::write_points;
 ghost use mathlib.Core.Path.{_≡_};
-ghost use mathlib.Core.Bool.{true};
-ghost use Prim.Native.Nat.{_+_, _*_, _≤_, _<_};
+ghost use Prim.Native.Nat.{_+_, _≤_};
 ghost use lib.ListN.{length};
-ghost use Rattle.digits.specs.Digits.{allDigits};
 ghost use Rattle.digits.specs.Laid.{laid};
 ghost use Rattle.frames.specs.Frame.{errorOf};
-ghost use Rattle.kinds.specs.Kinds.{Sound, pointsOf, columnsOf, integersOf, flagsOf, sizeOf, placeOf};
+ghost use Rattle.kinds.specs.Kinds.{Sound, pointsOf, columnsOf, integersOf, flagsOf, sizeOf};
 ghost use Rattle.journal.specs.Journal.{puts, entryFor};
 ghost use Rattle.journal.specs.Laws.{Good};
-ghost use Rattle.pairs.specs.Pairs.{bytesIn};
-ghost use Rattle.table.specs.Table.{Narrow};
-ghost use Rattle.queries.specs.Replies.{runText};
-ghost use Rattle.queries.specs.Laws.{Replied};
-ghost use Rattle.writes.specs.Writes.{Ready, Written};
 ghost use Rattle.calls.specs.Calls.{areasOf, callOf};
-ghost use Rattle.link.specs.Contract.{Heard, Answers, StepsBack, runArea};
+ghost use Rattle.link.specs.Contract.{Heard, Answers, StepsBack};
 
 // The answer to a frame: its number, the reply's length, what is handed on.
 pub struct Answered {
@@ -82,55 +75,6 @@ fn refuse(reply: &mut [u8], station: u8, number: u16, kept: Kept) -> Answered
         length,
         kept,
     }
-}
-
-// 210H and 20EH: a run said, of the area of its kind.
-fn read_run(
-    columns: &[u8],
-    integers: &[u8],
-    reply: &mut [u8],
-    station: u8,
-    m: Message,
-    k: Kind,
-    start: usize,
-    count: usize,
-) -> usize
-    requires { ⌜ Narrow m × (1024 ≤ length (now reply)) × (k .first ≤ start) × (2 * (count * k .unit) ≤ 1000) ⌝ }
-    requires { ⌜ (length (runArea (m .tag) (now columns) (now integers)) ≡ sizeOf k) × (placeOf k start + count * k .unit ≤ sizeOf k)
-        × (sizeOf k < 65536) ⌝ }
-    ensures { λ r. ⌜ Replied (now (reply .entry)) (now (reply .exit)) r station
-        (runText m k start count (runArea (m .tag) (now (columns .entry)) (now (integers .entry)))) ⌝ }
-{
-    if m.tag == Kind::INTEGERS {
-        return reply_run(reply, station, m, k, integers, start, count);
-    }
-    reply_run(reply, station, m, k, columns, start, count)
-}
-
-// 24EH and 24CH: a run changed in the area of its kind. The new used length.
-fn change_run(
-    columns: &mut [u8],
-    integers: &mut [u8],
-    journal: &mut [u8],
-    used: usize,
-    held: Held,
-    k: Kind,
-    start: usize,
-    count: usize,
-    digits: &[u8],
-) -> usize
-    requires { ⌜ (allDigits (now digits) ≡ true) × (length (now digits) ≡ 2 * (count * k .unit)) ⌝ }
-    requires { ⌜ Ready held k start count (runArea (k .tag) (now columns) (now integers)) (now journal) used ⌝ }
-    ensures { λ r. ⌜ Written held k start count (bytesIn (now (digits .entry)))
-        (runArea (k .tag) (now (columns .entry)) (now (integers .entry))) (runArea (k .tag) (now (columns .exit)) (now (integers .exit)))
-        (now (journal .entry)) (now (journal .exit)) used r ⌝ }
-    ensures { λ _. ⌜ runArea (k .tag) (now (integers .exit)) (now (columns .exit))
-        ≡ runArea (k .tag) (now (integers .entry)) (now (columns .entry)) ⌝ }
-{
-    if k.tag == Kind::INTEGERS {
-        return change(integers, journal, used, held, k, start, count, digits);
-    }
-    change(columns, journal, used, held, k, start, count, digits)
 }
 
 // What a message orders, once no refusal holds: a query's reply, or a write and its reply.

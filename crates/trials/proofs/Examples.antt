@@ -13,6 +13,12 @@ examples =
       with-reply = refl;
       without-reply = refl;
       no-step-back = refl;
+      flags-past = (refl, refl);
+      integers-past = (refl, refl);
+      back-past = refl;
+      ten-before-four = (refl, refl, refl);
+      not-listed = refl;
+      by-settings = (refl, refl);
       same-error = record { frame = refl; station = refl; held = refl; fitted = refl; heard = (refl, refl) };
       query = refl;
       test-call = refl;

@@ -1,8 +1,8 @@
 use mathlib.Core.Path.{refl}
 use borrow.Author.Tests.{eq-eqb, ne-eqb}
 use borrow.Author.Needs.{needs}
-use Rattle.link.proofs.change_run.Statement.{statement}
-use Rattle.link.proofs.change_run.Tie as tie
+use Rattle.writes.proofs.change_run.Statement.{statement}
+use Rattle.writes.proofs.change_run.Tie as tie
 
 change-requires : tie.Need-change-requires
 change-requires c κs = let p = c .before .before .before .before .before .before .before .before .pre in (p .0, rw (eq-eqb _ _ (c .before .before .if1 .taken)) at (p .1))
