@@ -1,5 +1,4 @@
 pub mod Refused
-pub mod Shown
 pub mod Sole
 pub mod Replied
 pub mod Parts
@@ -14,6 +13,8 @@ pub mod Written
 pub mod Runs
 pub mod Kept
 pub mod Codes
+pub mod Stored
+pub mod Shown
 pub mod Slots
 pub mod Listed
 pub mod Lasting

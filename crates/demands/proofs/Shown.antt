@@ -1,29 +1,27 @@
 -- 24BH, then 20DH: the change type that was sent, in its flag's bit.
 use Prim.Native.Nat.{ℕ, zero, suc, _+_, _-_, _*_, _≤_, _<_, _^_}
 use mathlib.Core.Path.{_≡_, refl, sym, ap, ap₂, _∙_}
-use mathlib.Core.Bool.{Bool, true, false, cond}
+use mathlib.Core.Bool.{true}
 use mathlib.Core.List.{List, [], _∷_, _++_}
 use native.Mathlib.Omega.{arith}
-use lib.Dec.{leb}
 use lib.ListN.{length, take, drop, getD, length-append}
 use borrow.Author.Tests.{leb-true}
-use Rattle.digits.specs.Digits.{byteOf, digitsOf, numberOf}
-use Rattle.digits.specs.Text.{text}
+use Rattle.digits.specs.Digits.{byteOf, numberOf}
 use Rattle.digits.proofs.Inverse.{inverse}
 use Rattle.digits.proofs.Bools.{was-not}
 use Rattle.kinds.specs.declared.Kind.{Kind}
 use Rattle.kinds.specs.declared.Held.{Held}
-use Rattle.kinds.specs.Kinds.{flagsTag, flagsOf, kindOf, heldIn, holds, runOf}
+use Rattle.kinds.specs.Kinds.{flagsTag, heldIn, holds, runOf}
 use Rattle.kinds.proofs.Known.{kind-flags, within, few}
 use Rattle.pairs.specs.Pairs.{digitsIn}
-use Rattle.flags.specs.Flags.{onOf, eights, bitAt}
+use Rattle.flags.specs.Flags.{onOf, eights}
 use Rattle.flags.proofs.Promised.{shown}
 use Rattle.table.specs.declared.Action.the-variants.{ShowFlags}
 use Rattle.calls.specs.Calls.{Areas, Sent, lengthsOf}
 use Rattle.refusals.proofs.Tested.{sound}
 use Rattle.queries.specs.Replies.{flagsText}
 use Rattle.demands.specs.History.{ours}
-use Rattle.demands.specs.Reading.{content, startOf, restOf, untouched, Says, kindIn, asksFlags, FlagShown, FlagRead}
+use Rattle.demands.specs.Reading.{startOf, restOf, untouched, Says, kindIn, asksFlags, FlagShown, FlagRead}
 use Rattle.demands.proofs.Commands.{showing, setting, named}
 use Rattle.demands.proofs.Asking.{Open, says, start-said, count-said, asks-right}
 use Rattle.demands.proofs.Runs.{run-in}

@@ -24,7 +24,7 @@ use Rattle.link.specs.Answer.{held, rest, writes, newBytes, answerOf}
 use Rattle.refusals.proofs.Rows.{call-passed}
 use Rattle.link.proofs.Carrying.{fine}
 use Rattle.demands.specs.History.{ours}
-use Rattle.demands.specs.Reading.{startOf, countOf, RunRead, FlagRead, PointsRead, PointsGone, Reads, effectiveOf}
+use Rattle.demands.specs.Reading.{startOf, countOf, RunRead, IntegersStored, FlagRead, PointsRead, PointsGone, Reads, effectiveOf}
 use Rattle.demands.specs.Survive.{Accepted, HeardAgain, effectiveNamed, Once, EveryDigitSurvives}
 use Rattle.demands.proofs.Refused.{one-number}
 use Rattle.demands.proofs.Commands.{writing, clearing, changing, changingIntegers, setting, row-of, rows, station-byte}
@@ -33,6 +33,7 @@ use Rattle.demands.proofs.Shaped.{Bounds, passes}
 use Rattle.demands.proofs.Written.{wrote, lengths-kept, open-after, only-named}
 use Rattle.demands.proofs.Kept.{Standing, standing-next}
 use Rattle.demands.proofs.Codes.{of-columns, of-integers, run-read}
+use Rattle.demands.proofs.Stored.{integers-stored}
 use Rattle.demands.proofs.Shown.{flag-read}
 use Rattle.demands.proofs.Listed.{tells, points-read, points-gone}
 use Rattle.demands.proofs.Slots.{effective-sent, effective-zero, effective-put}
@@ -50,6 +51,9 @@ reads {h} {a} {m} {s} {later} sound known t =
       integers = λ i.
           let e = row-of (s .frame) 0x24C changingIntegers known i (rows .3) in
           subst (λ (x : Message). RunRead ours a (text "20E") integersTag x s later) (sym e) (run-read of-integers 0x24C true (there (here e)));
+      stored = λ i.
+          let e = row-of (s .frame) 0x24C changingIntegers known i (rows .3) in
+          subst (λ (x : Message). IntegersStored a x s later) (sym e) (integers-stored (there (here e)));
       flag = λ i.
           let e = row-of (s .frame) 0x24B setting known i (rows .4) in
           subst (λ (x : Message). FlagRead ours a x s later) (sym e) (flag-read (there (here e)));

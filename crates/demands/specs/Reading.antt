@@ -8,6 +8,7 @@ use lib.ListN.{length, take, drop, getD}
 use Rattle.digits.specs.Digits.{numberOf, digitsOf}
 use Rattle.digits.specs.Text.{text}
 use Rattle.frames.specs.Frame.{command, normal, CR, LF, contentIn, scOf, replyOf}
+use Rattle.areas.specs.Bytes.{fourAt}
 use Rattle.kinds.specs.declared.Kind.{Kind}
 use Rattle.kinds.specs.Kinds.{pointsTag, columnsTag, integersTag, flagsTag, pointsOf, kindOf, heldIn, holds, placeOf, runOf}
 use Rattle.pairs.specs.Pairs.{digitsIn}
@@ -97,6 +98,12 @@ pub record RunRead (board : Conduct) (a : Areas) (id : List ℕ) (tag : ℕ) (m 
   pub whole : untouched tag (startOf m s) (countOf m s) later ≡ true → Says board a (id ++ take 7 (content s)) (id ++ content s)
   pub any-run : (start count : ℕ) → 1 ≤ count → count ≤ 255 → holds (kindIn tag a) start count ≡ true → RunSaid board a id tag m s later start count
 
+-- and each integer that a 24CH changed stands in its area as the number that its eight digits write, "four bytes an integer, high byte first" (02, a)
+abbrev pub IntegersStored : Areas → Message → Sent → List Sent → Type 0
+IntegersStored a m s later =
+    (i : ℕ) → i < countOf m s → untouched integersTag (startOf m s + i) 1 later ≡ true
+    → fourAt (a .integers) (placeOf (kindIn integersTag a) (startOf m s + i)) ≡ numberOf (take 8 (drop (8 * i) (restOf m s)))
+
 -- 20DH of flags: program number 00, start and count; the reply repeats these (02, a)
 abbrev pub asksFlags : ℕ → ℕ → List ℕ
 asksFlags start count = text "20D00" ++ (digitsOf 4 start ++ digitsOf 4 count)
@@ -159,6 +166,7 @@ pub record PointsGone (board : Conduct) (a : Areas) (m : Message) (s : Sent) (la
 pub record Reads (board : Conduct) (a : Areas) (m : Message) (s : Sent) (later : List Sent) : Type 0 where
   pub codes : m .id ≡ 0x24E → RunRead board a (text "210") columnsTag m s later
   pub integers : m .id ≡ 0x24C → RunRead board a (text "20E") integersTag m s later
+  pub stored : m .id ≡ 0x24C → IntegersStored a m s later
   pub flag : m .id ≡ 0x24B → FlagRead board a m s later
   pub points : m .id ≡ 0x244 → PointsRead board a m s later
   pub cleared : m .id ≡ 0x246 → PointsGone board a m s later

@@ -63,9 +63,10 @@ impl Held {
         ensures { λ r. ⌜ r ≡ integersOf self ⌝ }
     {
         let firsts = self.firsts;
+        let first = firsts.integer as usize;
         Kind {
             tag: Kind::INTEGERS,
-            first: firsts.integer as usize,
+            first,
             unit: 4,
             held: 100,
             most: 100,
@@ -77,9 +78,10 @@ impl Held {
         ensures { λ r. ⌜ r ≡ flagsOf self ⌝ }
     {
         let firsts = self.firsts;
+        let first = firsts.flag as usize;
         Kind {
             tag: Kind::FLAGS,
-            first: firsts.flag as usize,
+            first,
             unit: 1,
             held: 300,
             most: 1,

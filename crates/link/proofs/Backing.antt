@@ -1,29 +1,27 @@
 -- The step back: what its tests assure, and what it leaves.
-use Prim.Native.Nat.{ℕ, zero, suc, _+_, _-_, _*_, _/_, _≤_, _<_}
-use mathlib.Core.Path.{_≡_, refl, sym, ap, ap₂, _∙_, subst}
-use mathlib.Core.Bool.{Bool, true, false, cond}
+use Prim.Native.Nat.{ℕ, zero, suc, _+_, _-_, _≤_, _<_}
+use mathlib.Core.Path.{_≡_, refl, sym, ap, _∙_, subst}
+use mathlib.Core.Bool.{true, cond}
 use mathlib.Core.List.{List, _++_}
 use native.Mathlib.Omega.{arith}
 use lib.Dec.{eqb}
 use lib.ListN.{length, take, drop, replicate}
-use borrow.Author.Tests.{eqb-true, eqb-false}
+use borrow.Author.Tests.{eqb-true}
 use Rattle.kinds.specs.declared.Kind.{Kind}
 use Rattle.kinds.specs.declared.Held.{Held}
 use Rattle.kinds.specs.Kinds.{Sound, pointsOf, columnsOf, integersOf, flagsOf, kindOf, heldIn, sizeOf}
-use Rattle.kinds.proofs.Known.{kind-points, kind-columns, tag-of, sized}
+use Rattle.kinds.proofs.Known.{tag-of, sized}
 use Rattle.journal.specs.Journal.{Entry, encodes, entriesIn, whole, areaOf, lastEntry, others, entryFits, puts, entryFor}
-use Rattle.journal.specs.Laws.{Holds, Good, Stands}
+use Rattle.journal.specs.Laws.{Good, Stands}
 use Rattle.journal.specs.declared.Last.{Last}
 use Rattle.journal.proofs.Codec.{Bytes}
 use Rattle.journal.proofs.Back.{holds-back}
 use Rattle.messages.specs.Rows.{firstOf}
-use Rattle.calls.specs.declared.Kept.{Kept}
-use Rattle.calls.specs.Calls.{Areas, Outcome, areasOf, lengthsOf, steppedBack}
+use Rattle.calls.specs.Calls.{Areas, Outcome, areasOf, lengthsOf}
 use Rattle.refusals.specs.Refusals.{backRows, backRefusalOf}
-use Rattle.refusals.proofs.Rows.{AreasPass, areas-pass, back-rows}
+use Rattle.refusals.proofs.Rows.{areas-pass, back-rows}
 use Rattle.refusals.proofs.Tested.{Points, Variables, Journal, points-fit, variables-fit, journal-fits, sound}
 use Rattle.link.specs.declared.Back.{Back}
-use Rattle.link.specs.Answer.{unanswered, backOf}
 use Rattle.link.specs.Contract.{StepsBack}
 use Rattle.link.proofs.Answering.{refused-back, accepted-back}
 use Rattle.link.proofs.Outcomes.{same-areas}

@@ -1,23 +1,22 @@
 -- What a heard order assures: of the areas, of the content, and of a run that is to be written.
-use Prim.Native.Nat.{ℕ, zero, suc, _+_, _-_, _*_, _/_, _≤_, _<_, _^_}
+use Prim.Native.Nat.{ℕ, zero, suc, _+_, _-_, _*_, _≤_, _<_, _^_}
 use mathlib.Core.Path.{_≡_, refl, sym, ap, _∙_, subst}
 use mathlib.Core.Bool.{Bool, true, false, cond, not, _&&_}
 use mathlib.Core.Logic.{_⊎_, inl, inr}
-use mathlib.Core.List.{List, []}
+use mathlib.Core.List.{List}
 use native.Mathlib.Omega.{arith}
 use native.Mathlib.Nat.{mul-le-mul-right}
 use lib.Dec.{eqb, leb}
 use lib.ListN.{length, take, drop, length-append, length-drop, length-replicate}
 use lib.Seq.{length-take-le}
-use borrow.Author.Tests.{ltb-false, eqb-true, eqb-false, leb-true, le-leb, not-false}
+use borrow.Author.Tests.{ltb-false, eqb-true, eqb-false, leb-true, le-leb}
 use Rattle.digits.specs.Digits.{allDigits, numberOf}
 use Rattle.digits.proofs.Inverse.{inverse, and-left, and-right}
 use Rattle.digits.proofs.Bools.{was-not}
 use Rattle.frames.specs.Frame.{contentIn}
 use Rattle.kinds.specs.declared.Kind.{Kind}
 use Rattle.kinds.specs.declared.Held.{Held}
-use Rattle.kinds.specs.Kinds.{Sound, pointsTag, columnsTag, integersTag, flagsTag, pointsOf, columnsOf, integersOf, flagsOf, kindOf, heldIn, holds, sizeOf}
-use Rattle.pairs.specs.Pairs.{bytesIn}
+use Rattle.kinds.specs.Kinds.{Sound, pointsTag, columnsTag, integersTag, kindOf, heldIn, holds, sizeOf}
 use Rattle.kinds.proofs.Known.{kind-points, kind-columns, kind-integers, kind-flags, entry-room, few}
 use Rattle.pairs.proofs.Paired.{length-bytesIn}
 use Rattle.points.specs.Point.{lengthOf, pointOf, slotOf, slotsOf}
@@ -29,14 +28,14 @@ use Rattle.table.specs.declared.Message.{Message}
 use Rattle.messages.specs.declared.Asked.the-variants.{Order}
 use Rattle.table.specs.Table.{messageOf, fieldsOf, startIn, countIn, restIn, followsRight, anyBytes, Narrow}
 use Rattle.messages.specs.Asked.{askedOf}
-use Rattle.messages.proofs.Judged.{Right, Told, told, written}
-use Rattle.messages.proofs.Shapes.{Shape, Shaped, shaped}
+use Rattle.messages.proofs.Judged.{told, written}
+use Rattle.messages.proofs.Shapes.{Shape, shaped}
 use Rattle.calls.specs.Calls.{Areas, Call, lengthsOf, areaIn}
 use Rattle.calls.proofs.Tagged.{each-long}
 use Rattle.refusals.specs.Refusals.{silentOf}
-use Rattle.refusals.proofs.Rows.{AreasPass, CallPassed, call-passed}
-use Rattle.refusals.proofs.Tested.{Points, Variables, Journal, points-fit, variables-fit, journal-fits, shaped-long, sound}
-use Rattle.link.specs.Answer.{held, asked, rest, writes, newBytes}
+use Rattle.refusals.proofs.Rows.{AreasPass, call-passed}
+use Rattle.refusals.proofs.Tested.{Points, Journal, points-fit, variables-fit, journal-fits, shaped-long, sound}
+use Rattle.link.specs.Answer.{held, writes, newBytes}
 
 -- so many slots are forty bytes each
 pub slots-long : (count : ℕ) (digits : List ℕ) → length (slotsOf count digits) ≡ count * 40

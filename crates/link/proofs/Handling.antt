@@ -1,12 +1,11 @@
 -- What each handler needs and says, of an order that was heard.
-use Prim.Native.Nat.{ℕ, _+_, _-_, _*_, _/_, _≤_, _<_, _^_}
-use mathlib.Core.Path.{_≡_, refl, sym, ap, ap₂, _∙_, subst}
-use mathlib.Core.Bool.{Bool, true, false, cond}
+use Prim.Native.Nat.{ℕ, _+_, _-_, _*_, _≤_, _<_, _^_}
+use mathlib.Core.Path.{_≡_, sym, ap, _∙_, subst}
+use mathlib.Core.Bool.{true}
 use mathlib.Core.List.{List, [], _∷_}
 use mathlib.Core.Logic.{_⊎_, inl, inr}
 use native.Mathlib.Omega.{arith}
 use lib.Bits.{bitAnd}
-use lib.Dec.{eqb}
 use lib.ListN.{length, take, drop, replicate, length-drop}
 use borrow.Author.Tests.{eqb-true}
 use Rattle.digits.specs.Digits.{allDigits, numberOf}
@@ -25,15 +24,15 @@ use Rattle.table.specs.declared.Action.{Action}
 use Rattle.table.specs.declared.Action.the-variants.{SayBack, CountPoints, ListPoints, ReadRun, AxisStatus, WritePoints, ClearRun, ChangeRun, ShowFlags, SetFlag}
 use Rattle.table.specs.declared.Message.{Message}
 use Rattle.messages.specs.declared.Asked.the-variants.{Order}
-use Rattle.table.specs.Table.{fieldsOf, restIn, followsRight, anyBytes, Narrow}
+use Rattle.table.specs.Table.{fieldsOf, followsRight, Narrow}
 use Rattle.messages.proofs.Shapes.{Shape}
 use Rattle.queries.specs.Replies.{sameText, countText, listText, runText, flagsText, axesText, headOf}
 use Rattle.writes.specs.Writes.{Ready, Written}
 use Rattle.calls.specs.declared.Kept.{Kept}
-use Rattle.calls.specs.Calls.{Areas, Call, areasOf, areaIn, written}
-use Rattle.link.specs.Answer.{held, asked, rest, writes, newBytes, saidBy, areasAfter}
+use Rattle.calls.specs.Calls.{Call, areasOf, areaIn, written}
+use Rattle.link.specs.Answer.{held, rest, writes, newBytes, saidBy, areasAfter}
 use Rattle.link.specs.Contract.{Heard}
-use Rattle.link.proofs.Carrying.{Fine, fine, areas-long, Judged, judged-so, Named, Writable, writable, content-long}
+use Rattle.link.proofs.Carrying.{Fine, fine, areas-long, Judged, judged-so, Writable, writable}
 use Rattle.link.proofs.Outcomes.{ready, replacing, written-so}
 
 module _ (c : Call) (m : Message) (start count : ℕ) (h : Heard c m start count) where

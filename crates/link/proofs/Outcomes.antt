@@ -1,15 +1,15 @@
 -- What a handler's contract says, as the outcome.
-use Prim.Native.Nat.{ℕ, _+_, _-_, _*_, _≤_, _<_}
-use mathlib.Core.Path.{_≡_, refl, sym, ap, ap₂, _∙_, subst}
+use Prim.Native.Nat.{ℕ, _-_}
+use mathlib.Core.Path.{_≡_, refl, sym, ap, ap₂, _∙_}
 use mathlib.Core.Bool.{Bool, true, false, cond}
-use mathlib.Core.List.{List, []}
+use mathlib.Core.List.{List}
 use native.Mathlib.Omega.{arith}
 use lib.Dec.{eqb}
 use borrow.Author.Tests.{eqb-true}
 use lib.ListN.{length, take}
 use Rattle.digits.specs.Laid.{laid}
 use Rattle.digits.proofs.Laid.{laid-nothing}
-use Rattle.frames.specs.Frame.{errorOf, replyOf, normal}
+use Rattle.frames.specs.Frame.{errorOf}
 use Rattle.frames.proofs.Closing.{length-reply}
 use Rattle.kinds.specs.declared.Kind.{Kind}
 use Rattle.kinds.specs.declared.Held.{Held}
@@ -17,7 +17,6 @@ use Rattle.kinds.specs.declared.Firsts.{Firsts}
 use Rattle.kinds.specs.Kinds.{pointsTag, columnsTag, integersTag, flagsTag, pointsOf, columnsOf, integersOf, flagsOf, kindOf, sizeOf, runOf, put}
 use Rattle.kinds.proofs.Known.{own-kind, kind-points, kind-columns, kind-integers, kind-flags, tag-of}
 use Rattle.journal.specs.Journal.{encodes, entriesIn, added, areaOf, puts, entryFor}
-use Rattle.table.specs.declared.Action.{Action}
 use Rattle.table.specs.declared.Message.{Message}
 use Rattle.messages.specs.declared.Asked.{Asked}
 use Rattle.messages.specs.declared.Asked.the-variants.{Refused, Order}
@@ -28,7 +27,7 @@ use Rattle.calls.specs.declared.Kept.{Kept}
 use Rattle.calls.specs.Calls.{Areas, Call, Outcome, areasOf, areaIn, written}
 use Rattle.refusals.specs.Refusals.{silentOf}
 use Rattle.link.specs.declared.Answered.{Answered}
-use Rattle.link.specs.Answer.{held, asked, rest, writes, newBytes, saidBy, textOf, areasAfter, unanswered, answerOf}
+use Rattle.link.specs.Answer.{held, asked, writes, saidBy, textOf, areasAfter, unanswered, answerOf}
 use Rattle.link.specs.Contract.{Heard, Answers}
 use Rattle.link.proofs.Answering.{silent-answer, heard-answer}
 use Rattle.link.proofs.Carrying.{Fine, Named}

@@ -15,7 +15,6 @@ use Rattle.table.specs.declared.Follows.the-variants.{TenBytes, AxisPattern, Po
 use Rattle.table.specs.declared.Action.{Action}
 use Rattle.table.specs.declared.Action.the-variants.{SayBack, CountPoints, ListPoints, ReadRun, AxisStatus, WritePoints, ClearRun, ChangeRun, ShowFlags, SetFlag}
 use Rattle.table.specs.declared.Message.{Message}
-use Rattle.table.specs.declared.Named.{Named}
 use Rattle.table.specs.declared.Named.the-variants.{Known, Unknown}
 use Rattle.table.specs.Table.{messages, namedIn, messageNumbered, messageOf, fieldsOf, Narrow}
 

@@ -1,6 +1,6 @@
 -- What a board that can be written assures of the run that is named: its place, its bytes, and a good entry.
 use Prim.Native.Nat.{ℕ, _+_, _-_, _*_, _≤_, _<_}
-use mathlib.Core.Path.{_≡_, refl, sym, ap, _∙_}
+use mathlib.Core.Path.{_≡_}
 use mathlib.Core.List.{List, [], _∷_}
 use native.Mathlib.Omega.{arith}
 use native.Mathlib.Nat.{add-sub-cancel-left}
@@ -9,7 +9,7 @@ use Rattle.kinds.specs.declared.Kind.{Kind}
 use Rattle.kinds.specs.declared.Held.{Held}
 use Rattle.digits.specs.Digits.{worthOf, numberOf}
 use Rattle.digits.specs.Laid.{laid}
-use Rattle.kinds.specs.Kinds.{kindOf, runOf, put, placeOf, sizeOf}
+use Rattle.kinds.specs.Kinds.{runOf, put, placeOf}
 use Rattle.kinds.proofs.Known.{Sized, sized, within, room, run-length}
 use Rattle.journal.specs.Laws.{Good}
 use Rattle.journal.proofs.Fitting.{good}

@@ -1,9 +1,8 @@
-use Prim.Native.Nat.{ℕ, _+_, _-_, _*_, _≤_, _<_}
-use mathlib.Core.Path.{_≡_, refl, sym, ap, _∙_, subst}
+use Prim.Native.Nat.{ℕ, _-_}
+use mathlib.Core.Path.{_≡_, refl, ap, _∙_, subst}
 use mathlib.Core.List.{List}
 use native.Mathlib.Omega.{arith}
 use lib.ListN.{length, take, drop}
-use Rattle.frames.specs.Frame.{contentIn}
 use Rattle.kinds.specs.declared.Held.{Held}
 use Rattle.kinds.specs.Kinds.{kindOf}
 use Rattle.queries.specs.Laws.{Replied}
@@ -11,8 +10,6 @@ use Rattle.table.specs.declared.Message.{Message}
 use Rattle.table.specs.Table.{fieldsOf}
 use Rattle.calls.specs.Calls.{Call, callOf, areasOf}
 use Rattle.link.specs.Answer.{held, rest, writes}
-use Rattle.link.specs.Contract.{Heard}
-use Rattle.link.proofs.Carrying.{content-long}
 use Rattle.link.proofs.Outcomes.{answered, answered-said}
 use Rattle.link.proofs.Handling as handling
 use borrow.Author.Needs.{needs}

@@ -1,5 +1,4 @@
-use mathlib.Core.Path.{_≡_, refl, sym, ap, _∙_}
-use native.Mathlib.Omega.{arith}
+use mathlib.Core.Path.{refl, sym, ap, _∙_}
 use Rattle.kinds.specs.Kinds.{pointsTag, columnsTag, integersTag, flagsTag, sizeOf}
 use Rattle.kinds.proofs.Known.{kind-points, kind-columns, kind-integers, kind-flags}
 use Rattle.link.proofs.Backing.{restore-needs, same-puts}

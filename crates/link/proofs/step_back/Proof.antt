@@ -1,4 +1,4 @@
-use mathlib.Core.Path.{_≡_, refl, sym, ap, _∙_}
+use mathlib.Core.Path.{_≡_, refl, sym, _∙_}
 use native.Mathlib.Omega.{arith}
 use Rattle.calls.specs.Calls.{Areas, areasOf}
 use Rattle.refusals.specs.Refusals.{backRefusalOf}

@@ -1,7 +1,6 @@
-use mathlib.Core.Path.{_≡_, refl, sym, ap, _∙_}
-use native.Mathlib.Omega.{arith}
+use mathlib.Core.Path.{ap}
 use borrow.Author.Needs.{needs}
-use Rattle.table.specs.Table.{havePoints, followsRight}
+use Rattle.table.specs.Table.{havePoints}
 use Rattle.messages.proofs.is_long.Statement.{statement}
 use Rattle.messages.proofs.is_long.Tie as tie
 

@@ -1,19 +1,17 @@
-use Prim.Native.Nat.{ℕ, _+_, _-_, _*_, _≤_, _<_}
+use Prim.Native.Nat.{ℕ, _-_, _*_, _≤_}
 use mathlib.Core.Path.{_≡_, refl, sym, ap, _∙_}
-use mathlib.Core.Bool.{true, false, not}
+use mathlib.Core.Bool.{false}
 use mathlib.Core.List.{List}
 use native.Mathlib.Omega.{arith}
 use native.Mathlib.Nat.{mul-le-mul}
-use lib.ListN.{length, take, drop}
-use Rattle.digits.specs.Digits.{allDigits}
+use lib.ListN.{length}
 use Rattle.digits.proofs.Bools.{was-false, was-true, was-not}
 use Rattle.digits.proofs.Laid.{part-rest}
 use Rattle.kinds.specs.declared.Kind.{Kind}
 use Rattle.kinds.specs.Kinds.{kindOf}
 use Rattle.kinds.proofs.Known.{sized}
 use Rattle.points.proofs.Parts.{all-drop}
-use Rattle.table.specs.declared.Message.{Message}
-use Rattle.table.specs.Table.{fieldsOf, programIn, startIn, countIn, restIn, followsRight, havePoints}
+use Rattle.table.specs.Table.{fieldsOf, countIn, restIn, followsRight}
 use Rattle.messages.specs.Asked.{notDigits, countZero, notHeld, wrongPattern, wrongType}
 use Rattle.messages.proofs.Judged.{points-written, filled, one-digit, same-long, same-none, same-beyond, same-unfit, same-unlisted, same-fills, same-order, at-102, too-short, at-103, at-104, at-105, at-106, at-107, at-108, at-order}
 use borrow.Author.Needs.{needs}

@@ -1,7 +1,6 @@
-use mathlib.Core.Path.{_≡_, refl, sym, ap, _∙_}
+use mathlib.Core.Path.{sym}
 use native.Mathlib.Omega.{arith}
 use native.Mathlib.Nat.{add-sub-cancel-left}
-use lib.ListN.{length, take, length-take}
 use lib.Seq.{length-take-le}
 use Rattle.messages.proofs.Judged.{counted}
 use borrow.Author.Needs.{needs}

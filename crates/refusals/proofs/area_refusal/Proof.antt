@@ -1,5 +1,3 @@
-use mathlib.Core.Path.{_≡_, refl, sym, ap, _∙_}
-use native.Mathlib.Omega.{arith}
 use Rattle.digits.proofs.Bools.{was-false, was-true}
 use Rattle.refusals.proofs.Rows.{area-2, area-3, area-10, area-4, area-0}
 use Rattle.refusals.proofs.Tested.{sound, same-sound, same-journal}

@@ -1,5 +1,3 @@
-use mathlib.Core.Path.{_≡_, sym, ap, _∙_}
-use mathlib.Core.List.{List, [], _∷_}
 use native.Mathlib.Omega.{arith}
 use Rattle.writes.proofs.Spans.{span, put-at, one-digit}
 use borrow.Author.Needs.{needs}

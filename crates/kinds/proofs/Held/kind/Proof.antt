@@ -1,5 +1,5 @@
-use borrow.Author.Tests.{lt-ltb, le-ltb, le-leb, lt-leb, eq-eqb, ne-eqb}
-use mathlib.Core.Path.{_≡_, refl, sym, ap, _∙_}
+use borrow.Author.Tests.{eq-eqb, ne-eqb}
+use mathlib.Core.Path.{_∙_}
 use Rattle.kinds.specs.Kinds.{kindOf}
 use borrow.Author.Needs.{needs}
 use Rattle.kinds.proofs.Held.kind.Statement.{statement}
