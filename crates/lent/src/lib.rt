@@ -3,6 +3,7 @@ use axes::AxisRecord;
 use axes::axes_of;
 use calls::Kept;
 use calls::Settings;
+use kinds::Firsts;
 use link::Answered;
 use link::answer;
 ghost use Rattle.axes.specs.Run.{lentAxes};
@@ -14,17 +15,32 @@ pub fn answer_lent(
     frame: &[u8],
     points: &mut [u8],
     columns: &mut [u8],
+    integers: &mut [u8],
+    flags: &mut [u8],
     journal: &mut [u8],
     kept: Kept,
+    firsts: Firsts,
     records: &[AxisRecord],
     settings: Settings,
     reply: &mut [u8],
 ) -> Answered
     ensures { λ r. ⌜ Answers
         (callOf (now (frame .entry)) (lentAxes (now (records .entry))) settings (now (reply .entry))
-        (areasOf (now (points .entry)) (now (columns .entry)) (now (journal .entry)) kept))
-        r (areasOf (now (points .exit)) (now (columns .exit)) (now (journal .exit)) (r .kept)) (now (reply .exit)) ⌝ }
+        (areasOf (now (points .entry)) (now (columns .entry)) (now (integers .entry)) (now (flags .entry)) (now (journal .entry)) kept firsts))
+        r (areasOf (now (points .exit)) (now (columns .exit)) (now (integers .exit)) (now (flags .exit)) (now (journal .exit)) (r .kept) firsts) (now (reply .exit)) ⌝ }
 {
     let axes = axes_of(records);
-    answer(frame, points, columns, journal, kept, axes, settings, reply)
+    answer(
+        frame,
+        points,
+        columns,
+        integers,
+        flags,
+        journal,
+        kept,
+        firsts,
+        axes,
+        settings,
+        reply,
+    )
 }
