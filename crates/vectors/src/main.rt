@@ -7,6 +7,7 @@ use digits::wide;
 use finder::Found;
 use finder::find;
 use io::print_decimal;
+use kinds::Firsts;
 use lent::answer_lent;
 use libc::STDIN_FILENO;
 use libc::STDOUT_FILENO;
@@ -20,11 +21,13 @@ ghost use lib.ListN.{length};
 pub struct Board {
     pub points: usize,
     pub columns: usize,
+    pub integers: usize,
+    pub flags: usize,
     pub journal: usize,
     pub reply: usize,
     pub axes: usize,
-    pub fitted: u8,
-    pub station: u8,
+    pub settings: Settings,
+    pub firsts: Firsts,
     pub used: usize,
 }
 
@@ -57,6 +60,26 @@ fn number(rest: &[u8], from: usize, width: usize) -> usize
     n
 }
 
+// Which axes are fitted, then the station.
+fn settings_at(rest: &[u8], from: usize) -> Settings
+    requires { ⌜ from ≤ 14 ⌝ }
+{
+    Settings {
+        station: byte_at(rest, from + 1),
+        fitted: byte_at(rest, from),
+    }
+}
+
+// The first numbers of integers and of flags.
+fn firsts_at(rest: &[u8], from: usize) -> Firsts
+    requires { ⌜ from ≤ 14 ⌝ }
+{
+    Firsts {
+        integer: two(rest, from) as u16,
+        flag: two(rest, from + 2) as u16,
+    }
+}
+
 // The least of a length that is asked for and of a buffer's.
 fn within(long: usize, area: &[u8]) -> usize
     ensures { λ r. ⌜ r ≤ length (now (area .entry)) ⌝ }
@@ -76,8 +99,9 @@ fn fill(area: &mut [u8], b: u8) {
     }
 }
 
-fn set(area: &mut [u8], at: usize, b: u8) {
-    if at < area.len() {
+// One byte of an area, where it is the one that is meant.
+fn set(area: &mut [u8], here: bool, at: usize, b: u8) {
+    if here && at < area.len() {
         area[at] = b;
     }
 }
@@ -109,9 +133,11 @@ fn say_digest(area: &[u8]) {
     say(&text);
 }
 
-fn say_areas(points: &[u8], columns: &[u8], journal: &[u8]) {
+fn say_areas(points: &[u8], columns: &[u8], integers: &[u8], flags: &[u8], journal: &[u8]) {
     say_digest(points);
     say_digest(columns);
+    say_digest(integers);
+    say_digest(flags);
     say_digest(journal);
 }
 
@@ -120,8 +146,11 @@ fn answer_run(
     frame: &[u8],
     points: &mut [u8],
     columns: &mut [u8],
+    integers: &mut [u8],
+    flags: &mut [u8],
     journal: &mut [u8],
     kept: Kept,
+    firsts: Firsts,
     records: [AxisRecord; 8],
     settings: Settings,
     reply: &mut [u8],
@@ -130,8 +159,11 @@ fn answer_run(
         frame,
         points,
         columns,
+        integers,
+        flags,
         journal,
         kept,
+        firsts,
         &records,
         settings,
         reply,
@@ -143,12 +175,16 @@ fn answer_frame(
     frame: &[u8],
     points: &mut [u8],
     columns: &mut [u8],
+    integers: &mut [u8],
+    flags: &mut [u8],
     journal: &mut [u8],
-    kept: Kept,
     axes: &[u8],
-    settings: Settings,
+    board: Board,
     reply: &mut [u8],
 ) -> Answered {
+    let kept = Kept { used: board.used };
+    let firsts = board.firsts;
+    let settings = board.settings;
     let read = read_axes(axes);
     if read.eight {
         let records = read.records;
@@ -156,14 +192,29 @@ fn answer_frame(
             frame,
             points,
             columns,
+            integers,
+            flags,
             journal,
             kept,
+            firsts,
             records,
             settings,
             reply,
         );
     }
-    answer(frame, points, columns, journal, kept, read, settings, reply)
+    answer(
+        frame,
+        points,
+        columns,
+        integers,
+        flags,
+        journal,
+        kept,
+        firsts,
+        read,
+        settings,
+        reply,
+    )
 }
 
 // One frame answered; the used length.
@@ -171,21 +222,22 @@ fn play_frame(
     frame: &[u8],
     points: &mut [u8],
     columns: &mut [u8],
+    integers: &mut [u8],
+    flags: &mut [u8],
     journal: &mut [u8],
     reply: &mut [u8],
     axes: &[u8],
-    settings: Settings,
-    used: usize,
+    board: Board,
 ) -> usize {
-    let kept = Kept { used };
     let answered = answer_frame(
         frame,
         &mut *points,
         &mut *columns,
+        &mut *integers,
+        &mut *flags,
         &mut *journal,
-        kept,
         axes,
-        settings,
+        board,
         &mut *reply,
     );
     let number = answered.number;
@@ -196,23 +248,39 @@ fn play_frame(
     say_number(number as usize);
     say_number(length);
     say_number(left);
-    say_areas(&*points, &*columns, &*journal);
+    say_areas(&*points, &*columns, &*integers, &*flags, &*journal);
     say_digest(&*reply);
     say(b"\n");
     left
 }
 
 // One step back; the used length.
-fn play_back(points: &mut [u8], columns: &mut [u8], journal: &mut [u8], used: usize) -> usize {
-    let kept = Kept { used };
-    let back = step_back(&mut *points, &mut *columns, &mut *journal, kept);
+fn play_back(
+    points: &mut [u8],
+    columns: &mut [u8],
+    integers: &mut [u8],
+    flags: &mut [u8],
+    journal: &mut [u8],
+    board: Board,
+) -> usize {
+    let kept = Kept { used: board.used };
+    let firsts = board.firsts;
+    let back = step_back(
+        &mut *points,
+        &mut *columns,
+        &mut *integers,
+        &mut *flags,
+        &mut *journal,
+        kept,
+        firsts,
+    );
     let number = back.number;
     let after = back.kept;
     let left = after.used;
     say(b"S");
     say_number(number as usize);
     say_number(left);
-    say_areas(&*points, &*columns, &*journal);
+    say_areas(&*points, &*columns, &*integers, &*flags, &*journal);
     say(b"\n");
     left
 }
@@ -236,31 +304,52 @@ fn play_find(received: &[u8]) {
     }
 }
 
+// What is lent of a fresh board.
+fn board_of(rest: &[u8]) -> Board {
+    let held = two(rest, 1);
+    Board {
+        points: held * 40,
+        columns: 700,
+        integers: 400,
+        flags: 300,
+        journal: number(rest, 5, 4),
+        reply: 1024,
+        axes: 72,
+        settings: settings_at(rest, 3),
+        firsts: firsts_at(rest, 9),
+        used: 0,
+    }
+}
+
+fn zero(
+    points: &mut [u8],
+    columns: &mut [u8],
+    integers: &mut [u8],
+    flags: &mut [u8],
+    journal: &mut [u8],
+) {
+    fill(points, 0);
+    fill(columns, 0);
+    fill(integers, 0);
+    fill(flags, 0);
+    fill(journal, 0);
+}
+
 // 'B': zero areas, and what is lent of them.
 fn fresh(
     rest: &[u8],
     points: &mut [u8],
     columns: &mut [u8],
+    integers: &mut [u8],
+    flags: &mut [u8],
     journal: &mut [u8],
     reply: &mut [u8],
     axes: &mut [u8],
 ) -> Board {
-    fill(points, 0);
-    fill(columns, 0);
-    fill(journal, 0);
+    zero(points, columns, integers, flags, journal);
     fill(reply, 0xEE);
     fill(axes, 0);
-    let held = two(rest, 1);
-    Board {
-        points: held * 40,
-        columns: 700,
-        journal: number(rest, 5, 4),
-        reply: 1024,
-        axes: 72,
-        fitted: byte_at(rest, 3),
-        station: byte_at(rest, 4),
-        used: 0,
-    }
+    board_of(rest)
 }
 
 // 'X': one byte of an area.
@@ -268,6 +357,8 @@ fn spoil(
     rest: &[u8],
     points: &mut [u8],
     columns: &mut [u8],
+    integers: &mut [u8],
+    flags: &mut [u8],
     journal: &mut [u8],
     reply: &mut [u8],
     axes: &mut [u8],
@@ -275,17 +366,13 @@ fn spoil(
     let area = byte_at(rest, 1);
     let at = number(rest, 2, 4);
     let b = byte_at(rest, 6);
-    if area == 0 {
-        set(points, at, b);
-    } else if area == 1 {
-        set(columns, at, b);
-    } else if area == 2 {
-        set(journal, at, b);
-    } else if area == 3 {
-        set(reply, at, b);
-    } else {
-        set(axes, at, b);
-    }
+    set(points, area == 0, at, b);
+    set(columns, area == 1, at, b);
+    set(integers, area == 2, at, b);
+    set(flags, area == 3, at, b);
+    set(journal, area == 4, at, b);
+    set(reply, area == 5, at, b);
+    set(axes, area == 6, at, b);
 }
 
 // 'L': another length lent.
@@ -298,8 +385,12 @@ fn lend(rest: &[u8], board: Board) -> Board {
     } else if area == 1 {
         b.columns = long;
     } else if area == 2 {
-        b.journal = long;
+        b.integers = long;
     } else if area == 3 {
+        b.flags = long;
+    } else if area == 4 {
+        b.journal = long;
+    } else if area == 5 {
         b.reply = long;
     } else {
         b.axes = long;
@@ -307,22 +398,138 @@ fn lend(rest: &[u8], board: Board) -> Board {
     b
 }
 
-// How many bytes an operation has; 0 at the end.
-fn size(rest: &[u8]) -> usize
-    ensures { λ r. ⌜ r ≤ 65538 ⌝ }
-{
+// What touches no area: 'L', 'U', 'P', and 'R', which looks for a frame.
+fn settle(rest: &[u8], board: Board) -> Board {
     let op = byte_at(rest, 0);
-    if op == 0x42 || op == 0x55 {
-        return 9;
+    if op == 0x4C {
+        return lend(rest, board);
+    }
+    let mut b = board;
+    if op == 0x55 {
+        b.used = number(rest, 1, 8);
+    } else if op == 0x50 {
+        b.settings = settings_at(rest, 1);
+        b.firsts = firsts_at(rest, 3);
+    } else {
+        let from = within(3, rest);
+        play_find(&rest[from..]);
+    }
+    b
+}
+
+// 'F': a frame, on what is lent; the used length.
+fn frame_on(
+    rest: &[u8],
+    points: &mut [u8],
+    columns: &mut [u8],
+    integers: &mut [u8],
+    flags: &mut [u8],
+    journal: &mut [u8],
+    reply: &mut [u8],
+    axes: &[u8],
+    board: Board,
+) -> usize {
+    let from = within(3, rest);
+    let p = within(board.points, points);
+    let c = within(board.columns, columns);
+    let i = within(board.integers, integers);
+    let g = within(board.flags, flags);
+    let j = within(board.journal, journal);
+    let r = within(board.reply, reply);
+    let a = within(board.axes, axes);
+    play_frame(
+        &rest[from..],
+        &mut points[..p],
+        &mut columns[..c],
+        &mut integers[..i],
+        &mut flags[..g],
+        &mut journal[..j],
+        &mut reply[..r],
+        &axes[..a],
+        board,
+    )
+}
+
+// 'S': a step back, on what is lent; the used length.
+fn back_on(
+    points: &mut [u8],
+    columns: &mut [u8],
+    integers: &mut [u8],
+    flags: &mut [u8],
+    journal: &mut [u8],
+    board: Board,
+) -> usize {
+    let p = within(board.points, points);
+    let c = within(board.columns, columns);
+    let i = within(board.integers, integers);
+    let g = within(board.flags, flags);
+    let j = within(board.journal, journal);
+    play_back(
+        &mut points[..p],
+        &mut columns[..c],
+        &mut integers[..i],
+        &mut flags[..g],
+        &mut journal[..j],
+        board,
+    )
+}
+
+// One operation.
+fn play(
+    rest: &[u8],
+    points: &mut [u8],
+    columns: &mut [u8],
+    integers: &mut [u8],
+    flags: &mut [u8],
+    journal: &mut [u8],
+    reply: &mut [u8],
+    axes: &mut [u8],
+    board: Board,
+) -> Board {
+    let op = byte_at(rest, 0);
+    if op == 0x42 {
+        return fresh(rest, points, columns, integers, flags, journal, reply, axes);
     }
     if op == 0x58 {
+        spoil(rest, points, columns, integers, flags, journal, reply, axes);
+        return board;
+    }
+    let mut b = board;
+    if op == 0x46 {
+        b.used = frame_on(
+            rest,
+            points,
+            columns,
+            integers,
+            flags,
+            journal,
+            reply,
+            &*axes,
+            board,
+        );
+        return b;
+    }
+    if op == 0x53 {
+        b.used = back_on(points, columns, integers, flags, journal, board);
+        return b;
+    }
+    settle(rest, board)
+}
+
+// How many bytes an operation has; 0 at the end.
+fn size(rest: &[u8]) -> usize {
+    let op = byte_at(rest, 0);
+    if op == 0x42 {
+        return 13;
+    }
+    if op == 0x55 {
+        return 9;
+    }
+    if op == 0x58 || op == 0x50 {
         return 7;
     }
     if op == 0x4C {
         return 6;
-    }
-    if op == 0x50 {
-        return 3;
     }
     if op == 0x53 {
         return 1;
@@ -333,123 +540,46 @@ fn size(rest: &[u8]) -> usize
     0
 }
 
-// A call, on what is lent.
-fn call(
-    rest: &[u8],
-    points: &mut [u8],
-    columns: &mut [u8],
-    journal: &mut [u8],
-    reply: &mut [u8],
-    axes: &[u8],
-    board: Board,
-) -> usize {
-    let op = byte_at(rest, 0);
-    let p = within(board.points, points);
-    let c = within(board.columns, columns);
-    let j = within(board.journal, journal);
-    let r = within(board.reply, reply);
-    let a = within(board.axes, axes);
-    let used = board.used;
-    if op == 0x53 {
-        return play_back(&mut points[..p], &mut columns[..c], &mut journal[..j], used);
+// How many bytes the next operation has; 0 where none stands there whole.
+fn next(rest: &[u8]) -> usize
+    ensures { λ r. ⌜ r ≤ length (now (rest .entry)) ⌝ }
+{
+    let n = size(rest);
+    if n <= rest.len() {
+        return n;
     }
-    if rest.len() < 3 {
-        return used;
-    }
-    if op == 0x52 {
-        play_find(&rest[3..]);
-        return used;
-    }
-    let settings = Settings {
-        station: board.station,
-        fitted: board.fitted,
-    };
-    play_frame(
-        &rest[3..],
-        &mut points[..p],
-        &mut columns[..c],
-        &mut journal[..j],
-        &mut reply[..r],
-        &axes[..a],
-        settings,
-        used,
-    )
+    0
 }
 
-// One operation.
-fn play(
-    rest: &[u8],
-    points: &mut [u8],
-    columns: &mut [u8],
-    journal: &mut [u8],
-    reply: &mut [u8],
-    axes: &mut [u8],
-    board: Board,
-) -> Board {
-    let op = byte_at(rest, 0);
-    if op == 0x42 {
-        return fresh(rest, points, columns, journal, reply, axes);
-    }
-    if op == 0x58 {
-        spoil(rest, points, columns, journal, reply, axes);
-        return board;
-    }
-    if op == 0x4C {
-        return lend(rest, board);
-    }
-    let mut b = board;
-    if op == 0x55 {
-        b.used = number(rest, 1, 8);
-        return b;
-    }
-    if op == 0x50 {
-        b.fitted = byte_at(rest, 1);
-        b.station = byte_at(rest, 2);
-        return b;
-    }
-    b.used = call(rest, points, columns, journal, reply, &*axes, board);
-    b
-}
-
+// The first operation is a 'B', so the first board is that one.
 fn play_all(
     operations: &[u8],
     points: &mut [u8],
     columns: &mut [u8],
+    integers: &mut [u8],
+    flags: &mut [u8],
     journal: &mut [u8],
     reply: &mut [u8],
     axes: &mut [u8],
 ) {
-    let mut board = Board {
-        points: 0,
-        columns: 0,
-        journal: 0,
-        reply: 0,
-        axes: 0,
-        fitted: 0,
-        station: 0,
-        used: 0,
-    };
+    let mut board = board_of(operations);
     let mut at: usize = 0;
-    let mut turns = u64::MAX;
-    while turns > 0 {
-        let n = size(&operations[at..]);
-        if n == 0 {
-            return;
-        }
-        if operations.len() - at < n {
-            return;
-        }
+    let mut n = next(operations);
+    while n > 0 {
+        let end = at + n;
         board = play(
-            &operations[at..at + n],
+            &operations[at..end],
             &mut *points,
             &mut *columns,
+            &mut *integers,
+            &mut *flags,
             &mut *journal,
             &mut *reply,
             &mut *axes,
             board,
         );
-        at += n;
-        turns -= 1;
+        at = end;
+        n = next(&operations[end..]);
     }
 }
 
@@ -457,6 +587,8 @@ fn main() {
     let mut operations = [0u8; 131072];
     let mut points = [0u8; 60000];
     let mut columns = [0u8; 720];
+    let mut integers = [0u8; 420];
+    let mut flags = [0u8; 320];
     let mut journal = [0u8; 65600];
     let mut reply = [0u8; 1100];
     let mut axes = [0u8; 80];
@@ -465,6 +597,8 @@ fn main() {
         &operations[..n],
         &mut points,
         &mut columns,
+        &mut integers,
+        &mut flags,
         &mut journal,
         &mut reply,
         &mut axes,
