@@ -12,6 +12,7 @@ use lent::answer_lent;
 use libc::STDIN_FILENO;
 use libc::STDOUT_FILENO;
 use link::Answered;
+use link::Back;
 use link::answer;
 use link::step_back;
 ghost use Prim.Native.Nat.{_+_, _≤_, _<_};
@@ -99,9 +100,8 @@ fn fill(area: &mut [u8], b: u8) {
     }
 }
 
-// One byte of an area, where it is the one that is meant.
-fn set(area: &mut [u8], here: bool, at: usize, b: u8) {
-    if here && at < area.len() {
+fn set(area: &mut [u8], at: usize, b: u8) {
+    if at < area.len() {
         area[at] = b;
     }
 }
@@ -183,8 +183,6 @@ fn answer_frame(
     reply: &mut [u8],
 ) -> Answered {
     let kept = Kept { used: board.used };
-    let firsts = board.firsts;
-    let settings = board.settings;
     let read = read_axes(axes);
     if read.eight {
         let records = read.records;
@@ -196,9 +194,9 @@ fn answer_frame(
             flags,
             journal,
             kept,
-            firsts,
+            board.firsts,
             records,
-            settings,
+            board.settings,
             reply,
         );
     }
@@ -210,11 +208,30 @@ fn answer_frame(
         flags,
         journal,
         kept,
-        firsts,
+        board.firsts,
         read,
-        settings,
+        board.settings,
         reply,
     )
+}
+
+// The numbers of an answer; the used length.
+fn say_answered(answered: Answered) -> usize {
+    let after = answered.kept;
+    say(b"F");
+    say_number(answered.number as usize);
+    say_number(answered.length);
+    say_number(after.used);
+    after.used
+}
+
+// The numbers of a step back; the used length.
+fn say_back(back: Back) -> usize {
+    let after = back.kept;
+    say(b"S");
+    say_number(back.number as usize);
+    say_number(after.used);
+    after.used
 }
 
 // One frame answered; the used length.
@@ -240,14 +257,7 @@ fn play_frame(
         board,
         &mut *reply,
     );
-    let number = answered.number;
-    let length = answered.length;
-    let after = answered.kept;
-    let left = after.used;
-    say(b"F");
-    say_number(number as usize);
-    say_number(length);
-    say_number(left);
+    let left = say_answered(answered);
     say_areas(&*points, &*columns, &*integers, &*flags, &*journal);
     say_digest(&*reply);
     say(b"\n");
@@ -264,7 +274,6 @@ fn play_back(
     board: Board,
 ) -> usize {
     let kept = Kept { used: board.used };
-    let firsts = board.firsts;
     let back = step_back(
         &mut *points,
         &mut *columns,
@@ -272,14 +281,9 @@ fn play_back(
         &mut *flags,
         &mut *journal,
         kept,
-        firsts,
+        board.firsts,
     );
-    let number = back.number;
-    let after = back.kept;
-    let left = after.used;
-    say(b"S");
-    say_number(number as usize);
-    say_number(left);
+    let left = say_back(back);
     say_areas(&*points, &*columns, &*integers, &*flags, &*journal);
     say(b"\n");
     left
@@ -321,39 +325,17 @@ fn board_of(rest: &[u8]) -> Board {
     }
 }
 
-fn zero(
-    points: &mut [u8],
-    columns: &mut [u8],
-    integers: &mut [u8],
-    flags: &mut [u8],
-    journal: &mut [u8],
-) {
-    fill(points, 0);
-    fill(columns, 0);
-    fill(integers, 0);
-    fill(flags, 0);
-    fill(journal, 0);
+// 'B' and 'X' of one area, by its number: filled, or one byte of it set. Other operations leave it.
+fn prepare(rest: &[u8], area: &mut [u8], which: u8, blank: u8) {
+    let op = byte_at(rest, 0);
+    if op == 0x42 {
+        fill(area, blank);
+    } else if op == 0x58 && byte_at(rest, 1) == which {
+        set(area, number(rest, 2, 4), byte_at(rest, 6));
+    }
 }
 
-// 'B': zero areas, and what is lent of them.
-fn fresh(
-    rest: &[u8],
-    points: &mut [u8],
-    columns: &mut [u8],
-    integers: &mut [u8],
-    flags: &mut [u8],
-    journal: &mut [u8],
-    reply: &mut [u8],
-    axes: &mut [u8],
-) -> Board {
-    zero(points, columns, integers, flags, journal);
-    fill(reply, 0xEE);
-    fill(axes, 0);
-    board_of(rest)
-}
-
-// 'X': one byte of an area.
-fn spoil(
+fn prepare_all(
     rest: &[u8],
     points: &mut [u8],
     columns: &mut [u8],
@@ -363,16 +345,13 @@ fn spoil(
     reply: &mut [u8],
     axes: &mut [u8],
 ) {
-    let area = byte_at(rest, 1);
-    let at = number(rest, 2, 4);
-    let b = byte_at(rest, 6);
-    set(points, area == 0, at, b);
-    set(columns, area == 1, at, b);
-    set(integers, area == 2, at, b);
-    set(flags, area == 3, at, b);
-    set(journal, area == 4, at, b);
-    set(reply, area == 5, at, b);
-    set(axes, area == 6, at, b);
+    prepare(rest, points, 0, 0);
+    prepare(rest, columns, 1, 0);
+    prepare(rest, integers, 2, 0);
+    prepare(rest, flags, 3, 0);
+    prepare(rest, journal, 4, 0);
+    prepare(rest, reply, 5, 0xEE);
+    prepare(rest, axes, 6, 0);
 }
 
 // 'L': another length lent.
@@ -398,9 +377,12 @@ fn lend(rest: &[u8], board: Board) -> Board {
     b
 }
 
-// What touches no area: 'L', 'U', 'P', and 'R', which looks for a frame.
+// What touches no area: the board after 'B', 'L', 'U' or 'P', and 'R', which looks for a frame.
 fn settle(rest: &[u8], board: Board) -> Board {
     let op = byte_at(rest, 0);
+    if op == 0x42 {
+        return board_of(rest);
+    }
     if op == 0x4C {
         return lend(rest, board);
     }
@@ -410,7 +392,7 @@ fn settle(rest: &[u8], board: Board) -> Board {
     } else if op == 0x50 {
         b.settings = settings_at(rest, 1);
         b.firsts = firsts_at(rest, 3);
-    } else {
+    } else if op == 0x52 {
         let from = within(3, rest);
         play_find(&rest[from..]);
     }
@@ -474,7 +456,7 @@ fn back_on(
     )
 }
 
-// One operation.
+// What an operation does but for 'B' and 'X' of the areas.
 fn play(
     rest: &[u8],
     points: &mut [u8],
@@ -487,13 +469,6 @@ fn play(
     board: Board,
 ) -> Board {
     let op = byte_at(rest, 0);
-    if op == 0x42 {
-        return fresh(rest, points, columns, integers, flags, journal, reply, axes);
-    }
-    if op == 0x58 {
-        spoil(rest, points, columns, integers, flags, journal, reply, axes);
-        return board;
-    }
     let mut b = board;
     if op == 0x46 {
         b.used = frame_on(
@@ -567,19 +542,21 @@ fn play_all(
     let mut n = next(operations);
     while n > 0 {
         let end = at + n;
-        board = play(
-            &operations[at..end],
-            &mut *points,
-            &mut *columns,
-            &mut *integers,
-            &mut *flags,
-            &mut *journal,
-            &mut *reply,
-            &mut *axes,
-            board,
-        );
+        let rest = &operations[at..end];
         at = end;
         n = next(&operations[end..]);
+        prepare_all(rest, points, columns, integers, flags, journal, reply, axes);
+        board = play(
+            rest,
+            points,
+            columns,
+            integers,
+            flags,
+            journal,
+            reply,
+            axes,
+            board,
+        );
     }
 }
 
