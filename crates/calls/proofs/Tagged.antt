@@ -1,8 +1,8 @@
--- Laws of the areas by their tags. Only `by-tag` goes through the tags.
+-- Laws of the areas by their tags. Only `by-tag` goes through the tags one after the other.
 use Prim.Native.Nat.{ℕ, _≤_}
 use mathlib.Core.Path.{_≡_, refl, sym, ap, subst}
 use mathlib.Core.Bool.{Bool, true, false}
-use mathlib.Core.List.{List, []}
+use mathlib.Core.List.{[]}
 use native.Mathlib.Omega.{arith}
 use lib.Dec.{eqb}
 use lib.ListN.{length}
@@ -11,9 +11,10 @@ use Rattle.kinds.specs.declared.Kind.{Kind}
 use Rattle.kinds.specs.declared.Held.{Held}
 use Rattle.kinds.specs.Kinds.{pointsTag, columnsTag, integersTag, flagsTag, pointsOf, columnsOf, integersOf, flagsOf, kindOf, holds, sizeOf, put}
 use Rattle.kinds.proofs.Known.{within}
-use Rattle.journal.specs.Journal.{Entry, puts, entryFor}
+use Rattle.journal.specs.Journal.{puts, entryFor}
 use Rattle.journal.proofs.Fitting.{puts-other}
 use Rattle.calls.specs.Calls.{Areas, areaIn, putIn}
+use Rattle.calls.specs.Laws.{PutOwn, PutOther}
 
 -- a tag that no kind has: nothing is held, and there is no area
 pub record None (tag : ℕ) : Type 0 where
@@ -47,9 +48,8 @@ pub same-areas : (a a′ : Areas) → a .points ≡ a′ .points → a .columns 
     → areaIn tag a ≡ areaIn tag a′
 same-areas a a′ p c n f = by-tag (λ (t : ℕ). areaIn t a ≡ areaIn t a′) p c n f (λ t z. rw (z .area a, z .area a′))
 
--- bytes of a held run stand in the area of their own kind
-pub put-own : (h : Held) (start count : ℕ) (bytes : List ℕ) (a : Areas) (tag : ℕ) → 1 ≤ count → holds (kindOf h tag) start count ≡ true
-    → areaIn tag (putIn h (entryFor tag start bytes) a) ≡ put (kindOf h tag) start bytes (areaIn tag a)
+-- the laws of specs/Laws.antt
+pub put-own : PutOwn
 unfolding kindOf puts
 put-own h start count bytes a =
     by-tag
@@ -61,8 +61,7 @@ put-own h start count bytes a =
     (λ _ _. refl)
     (λ t z some e. absurd (let w = within (kindOf h t) start count e in omega (arith, w .1, w .0, ap (λ (k : Kind). k .held) (z .kind h))))
 
--- and the area of another kind is as it was
-pub put-other : (h : Held) (e : Entry) (a : Areas) (tag : ℕ) → (tag ≡ e .tag → ⊥) → areaIn tag (putIn h e a) ≡ areaIn tag a
+pub put-other : PutOther
 put-other h e a =
     by-tag (λ (t : ℕ). (t ≡ e .tag → ⊥) → areaIn t (putIn h e a) ≡ areaIn t a)
     (λ n. sym (puts-other (pointsOf h) e (a .points) (λ z. n (sym z))))

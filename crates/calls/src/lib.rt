@@ -1,6 +1,6 @@
 // What is handed over with a call beside the areas' bytes, and what is handed on from call to call (document 01, "The areas").
 
-// The board's settings.
+// A frame's settings; the first numbers of variables, which a step back needs too, are kinds::Firsts.
 pub struct Settings {
     pub station: u8,
     pub fitted: u8,

@@ -1,6 +1,7 @@
 -- Demand 1, from the table and the outcome.
 use Prim.Native.Nat.{ℕ, _≤_, _<_}
 use mathlib.Core.Path.{_≡_, refl, sym, ap, _∙_, subst}
+use mathlib.Core.Logic.{_⊎_, inl, inr}
 use mathlib.Core.Bool.{true, false}
 use mathlib.Core.List.{List, [], _∷_}
 use native.Mathlib.Omega.{arith}
@@ -134,10 +135,17 @@ text-ten c =
 ten-long : (c : Call) → 101 ≤ answerOf c .number → length (answerOf c .text) ≡ 10
 ten-long c h = ap length (text-ten c h) ∙ length-reply _ _ _
 
-no-other : (c : Call) → 11 ≤ answerOf c .number → 101 ≤ answerOf c .number
+-- 9 is no frame's
+not-nine : (c : Call) → 9 ≤ silentOf c → silentOf c ≡ 10
+unfolding silentOf silentRows areaRows frameRows
+not-nine c =
+    number-given (λ (k : ℕ). 9 ≤ k → k ≡ 10) (silent c) (λ h. absurd (omega arith))
+    (λ h. absurd (omega arith), (λ h. absurd (omega arith), (λ h. absurd (omega arith), (λ _. refl, (λ h. absurd (omega arith), (λ h. absurd (omega arith), (λ h. absurd (omega arith), (λ h. absurd (omega arith), (λ h. absurd (omega arith), tt)))))))))
+
+no-other : (c : Call) → 9 ≤ answerOf c .number → (answerOf c .number ≡ 10) ⊎ (101 ≤ answerOf c .number)
 no-other c =
-    answer-either c (λ (o : Outcome). 11 ≤ o .number → 101 ≤ o .number) (λ _ h. asked-high c (λ e. omega (arith, h, e)))
-    (λ _ h. absurd (omega (arith, h, silent-low c)))
+    answer-either c (λ (o : Outcome). 9 ≤ o .number → (o .number ≡ 10) ⊎ (101 ≤ o .number)) (λ _ h. inr (asked-high c (λ e. omega (arith, h, e))))
+    (λ _ h. inl (not-nine c h))
 
 back-text : (a : Areas) → backOf a .text ≡ []
 unfolding backOf

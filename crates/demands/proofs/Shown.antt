@@ -11,7 +11,7 @@ use Rattle.digits.proofs.Inverse.{inverse}
 use Rattle.digits.proofs.Bools.{was-not}
 use Rattle.kinds.specs.declared.Kind.{Kind}
 use Rattle.kinds.specs.declared.Held.{Held}
-use Rattle.kinds.specs.Kinds.{flagsTag, heldIn, holds, runOf}
+use Rattle.kinds.specs.Kinds.{flagsTag, heldIn, holds, placeOf, runOf}
 use Rattle.kinds.proofs.Known.{kind-flags, within, few}
 use Rattle.pairs.specs.Pairs.{digitsIn}
 use Rattle.flags.specs.Flags.{onOf, eights}
@@ -21,7 +21,7 @@ use Rattle.calls.specs.Calls.{Areas, Sent, lengthsOf}
 use Rattle.refusals.proofs.Tested.{sound}
 use Rattle.queries.specs.Replies.{flagsText}
 use Rattle.demands.specs.History.{ours}
-use Rattle.demands.specs.Reading.{startOf, restOf, untouched, Says, kindIn, asksFlags, FlagShown, FlagRead}
+use Rattle.demands.specs.Reading.{startOf, restOf, untouched, Says, kindIn, asksFlags, FlagShown, FlagRead, FlagStored}
 use Rattle.demands.proofs.Commands.{showing, setting, named}
 use Rattle.demands.proofs.Asking.{Open, says, start-said, count-said, asks-right}
 use Rattle.demands.proofs.Runs.{run-in}
@@ -97,6 +97,13 @@ module _ {a : Areas} {s : Sent} {later : List Sent} (t : Standing (heldIn (lengt
           says = shows-any a (t .is-open) start count (omega (arith, low, high)) all;
           bit = shown here .each (startOf setting s - start) ∙ ap onOf (first-of (startOf setting s - start) here in-run) ∙ on-is value listed;
         }
+
+  pub flag-stored : FlagStored a setting s later
+  unfolding runOf
+  flag-stored u =
+      let k = kindIn flagsTag a in
+      let q : 1 * k .unit ≡ 1 = ap (λ (x : Kind). 1 * x .unit) (kind-flags (heldIn (lengthsOf a))) in
+      first-of (placeOf k (startOf setting s)) (a .flags) (ap (λ (x : ℕ). take x (drop (placeOf k (startOf setting s)) (a .flags))) (sym q) ∙ stands u)
 
   pub flag-read : FlagRead ours a setting s later
   flag-read = record { kind = refl; shown = shown-here }

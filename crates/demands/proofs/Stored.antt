@@ -1,16 +1,16 @@
 -- 24CH: each integer stands in its area as the number that its eight digits write.
-use Prim.Native.Nat.{ℕ, zero, suc, _+_, _-_, _*_, _≤_, _<_}
+use Prim.Native.Nat.{ℕ, zero, suc, _+_, _-_, _*_, _<_}
 use mathlib.Core.Path.{_≡_, refl, sym, ap, ap₂, _∙_}
 use mathlib.Core.Bool.{true}
 use mathlib.Core.List.{List, [], _∷_}
 use native.Mathlib.Omega.{arith}
-use lib.ListN.{length, take, drop, getD, length-drop}
-use lib.Seq.{length-take-le, getD-take, getD-drop, drop-nil, take-nil}
+use lib.ListN.{length, take, drop, length-drop}
+use lib.Seq.{length-take-le, getD-take, getD-drop, drop-nil}
 use borrow.Author.Tests.{eqb-true}
 use Rattle.digits.specs.Digits.{numberOf}
 use Rattle.areas.specs.Bytes.{fourAt}
 use Rattle.kinds.specs.declared.Kind.{Kind}
-use Rattle.kinds.specs.Kinds.{integersTag, kindOf, heldIn, placeOf, runOf}
+use Rattle.kinds.specs.Kinds.{integersTag, heldIn, placeOf, runOf}
 use Rattle.kinds.proofs.Known.{kind-integers}
 use Rattle.pairs.specs.Pairs.{bytesIn}
 use Rattle.pairs.proofs.Promised.{high-first}

@@ -24,7 +24,7 @@ use Rattle.link.specs.Answer.{held, rest, writes, newBytes, answerOf}
 use Rattle.refusals.proofs.Rows.{call-passed}
 use Rattle.link.proofs.Carrying.{fine}
 use Rattle.demands.specs.History.{ours}
-use Rattle.demands.specs.Reading.{startOf, countOf, RunRead, IntegersStored, FlagRead, PointsRead, PointsGone, Reads, effectiveOf}
+use Rattle.demands.specs.Reading.{startOf, countOf, RunRead, IntegersStored, FlagRead, FlagStored, PointsRead, PointsGone, Reads, effectiveOf}
 use Rattle.demands.specs.Survive.{Accepted, HeardAgain, effectiveNamed, Once, EveryDigitSurvives}
 use Rattle.demands.proofs.Refused.{one-number}
 use Rattle.demands.proofs.Commands.{writing, clearing, changing, changingIntegers, setting, row-of, rows, station-byte}
@@ -34,7 +34,7 @@ use Rattle.demands.proofs.Written.{wrote, lengths-kept, open-after, onl
 use Rattle.demands.proofs.Kept.{Standing, standing-next}
 use Rattle.demands.proofs.Codes.{of-columns, of-integers, run-read}
 use Rattle.demands.proofs.Stored.{integers-stored}
-use Rattle.demands.proofs.Shown.{flag-read}
+use Rattle.demands.proofs.Shown.{flag-read, flag-stored}
 use Rattle.demands.proofs.Listed.{tells, points-read, points-gone}
 use Rattle.demands.proofs.Slots.{effective-sent, effective-zero, effective-put}
 use Rattle.demands.proofs.Histories.{first, every}
@@ -57,6 +57,9 @@ reads {h} {a} {m} {s} {later} sound known t =
       flag = λ i.
           let e = row-of (s .frame) 0x24B setting known i (rows .4) in
           subst (λ (x : Message). FlagRead ours a x s later) (sym e) (flag-read (there (here e)));
+      flag-stored = λ i.
+          let e = row-of (s .frame) 0x24B setting known i (rows .4) in
+          subst (λ (x : Message). FlagStored a x s later) (sym e) (flag-stored (there (here e)));
       points = λ i.
           let e = row-of (s .frame) 0x244 writing known i (rows .0) in
           subst (λ (x : Message). PointsRead ours a x s later) (sym e) (points-read (here e) sound);

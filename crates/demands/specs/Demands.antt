@@ -4,7 +4,8 @@ use Rattle.demands.specs.Replied.{EveryReply, NormalReply, ReplyFits, Te
 use Rattle.demands.specs.History.{ours, EveryHistory}
 use Rattle.demands.specs.Survive.{HeardAgain, EveryDigitSurvives}
 
--- "A frame that is refused changes no point, no column and nothing in the journal, and a refusal has one number and one fixed reply, or none."
+-- "A frame that is refused changes no point, no column and nothing in the journal, and a refusal has one number and one fixed reply, or none."; no
+-- integer and no flag either (02, a)
 pub record Demand1 : Type 0 where
   pub one-number : OneNumber
   pub no-other-number : NoOtherNumber
@@ -22,7 +23,8 @@ pub record Demand2 : Type 0 where
   pub every-digit-survives : EveryDigitSurvives ours
   pub heard-again : HeardAgain
 
--- "After any sequence of frames and steps back, points and columns are exactly what the accepted writes not taken back would leave"
+-- "After any sequence of frames and steps back, points and columns are exactly what the accepted writes not taken back would leave"; "all four kinds"
+-- (02, a)
 abbrev pub Demand3 : Type 0
 Demand3 = EveryHistory ours
 

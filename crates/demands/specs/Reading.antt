@@ -162,12 +162,18 @@ pub record PointsGone (board : Conduct) (a : Areas) (m : Message) (s : Sent) (la
   pub each :
       (i : ℕ) → i < countOf m s → untouched pointsTag (startOf m s + i) 1 later ≡ true → Says board a (asksPoints (startOf m s + i) 1) (text "209000")
 
+-- and its byte is the change type: "0 stores 00, 1 stores 01"
+abbrev pub FlagStored : Areas → Message → Sent → List Sent → Type 0
+FlagStored a m s later =
+    untouched flagsTag (startOf m s) 1 later ≡ true → getD (a .flags) (placeOf (kindIn flagsTag a) (startOf m s)) 0 ≡ numberOf (restOf m s)
+
 -- what is read, over areas, of the numbers that a write named, where later writes have not touched them
 pub record Reads (board : Conduct) (a : Areas) (m : Message) (s : Sent) (later : List Sent) : Type 0 where
   pub codes : m .id ≡ 0x24E → RunRead board a (text "210") columnsTag m s later
   pub integers : m .id ≡ 0x24C → RunRead board a (text "20E") integersTag m s later
   pub stored : m .id ≡ 0x24C → IntegersStored a m s later
   pub flag : m .id ≡ 0x24B → FlagRead board a m s later
+  pub flag-stored : m .id ≡ 0x24B → FlagStored a m s later
   pub points : m .id ≡ 0x244 → PointsRead board a m s later
   pub cleared : m .id ≡ 0x246 → PointsGone board a m s later
 

@@ -1,4 +1,4 @@
-// The journal: entries in a lent area, adding one, stepping back (document 01, "Journal").
+// The journal: entries in a lent area, adding one, stepping back (document 01, "Journal"; document 02, a).
 use areas::bytes::put_two;
 use areas::bytes::two_at;
 use areas::runs::clear_run;

@@ -1,4 +1,4 @@
-// Kinds of numbered things, as values (document 01, "The areas" and "Journal").
+// Kinds of numbered things, as values (document 01, "The areas" and "Journal"; document 02, a).
 ghost use mathlib.Core.Path.{_≡_};
 ghost use Prim.Native.Nat.{_+_, _*_, _<_, _≤_, _^_};
 ghost use Rattle.kinds.specs.Kinds.{pointsOf, columnsOf, integersOf, flagsOf, kindOf, heldIn, holds, placeOf};

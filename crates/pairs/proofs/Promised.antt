@@ -1,9 +1,7 @@
 -- The laws of specs/Laws.antt.
-use Prim.Native.Nat.{ℕ, suc, _+_}
-use mathlib.Core.Path.{_≡_}
+use Prim.Native.Nat.{ℕ}
 use mathlib.Core.List.{List, [], _∷_}
 use native.Mathlib.Omega.{arith}
-use lib.ListN.{length}
 use Rattle.pairs.specs.Laws.{EveryDigit, HighFirst}
 use Rattle.pairs.proofs.Paired.{digits-back}
 

@@ -1,4 +1,5 @@
--- Document 01, "Each message", 24EH and 210H: "one byte for each", "two digits for each column": bytes as pairs of digits, and back.
+-- Document 01, "Each message", 24EH and 210H: "one byte for each", "two digits for each column": bytes as pairs of digits, and back; so 24CH, 20EH and
+-- 20DH (02, a).
 use Prim.Native.Nat.{ℕ}
 use mathlib.Core.List.{List, [], _∷_, _++_}
 use Rattle.digits.specs.Digits.{numberOf, digitsOf}

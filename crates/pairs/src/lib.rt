@@ -1,4 +1,4 @@
-// One byte for each pair of digits, and back (document 01, "Each message", 24EH and 210H).
+// One byte for each pair of digits, and back (document 01, "Each message", 24EH and 210H; document 02, a).
 ghost use mathlib.Core.Path.{_≡_};
 ghost use mathlib.Core.Bool.{true};
 ghost use Prim.Native.Nat.{_+_, _*_, _≤_};

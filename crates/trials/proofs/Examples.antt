@@ -28,6 +28,7 @@ examples =
       four-bytes = omega arith;
       run-fits = (refl, omega arith);
       slot-fits = every-digit benchDigits refl refl .0;
+      eight-digits = refl;
       step-back = λ a. record { number-is = refl; kept-is = refl; areas-are = refl };
       receive = λ f. record { code-is = refl; start-is = refl; length-is = refl; drop-is = refl };
     }

@@ -1,5 +1,5 @@
 -- No statement is true for an empty reason: calls that meet the premises of the statements of Refused.antt and Replied.antt in demands, values that meet
--- those of four laws of other crates, and results that meet the contracts.
+-- those of five laws of other crates, and results that meet the contracts.
 use Prim.Native.Nat.{ℕ, _+_, _*_, _≤_}
 use mathlib.Core.Path.{_≡_}
 use mathlib.Core.Bool.{false}
@@ -48,9 +48,9 @@ pub record Examples : Type 0 where
       × (answerOf (bench (numbering 200 600 20500) (text "!99208@@\r\n")) .number ≡ 0)
   -- 108: change type 2
   pub not-listed : answerOf (bench blank (text "!9924B0002582@@\r\n")) .number ≡ 108
-  -- "an error reply may depend on settings too": integer 200 where the first one is 200, and where it is 201
-  pub by-settings : (answerOf (bench (numbering 200 600 32768) (text "!9920E000C801@@\r\n")) .number ≡ 0)
-      × (answerOf (bench (numbering 201 600 32768) (text "!9920E000C801@@\r\n")) .number ≡ 106)
+  -- "an error reply may depend on settings too": flag 600 with change type 2 where the first flag is 600, and where it is 601
+  pub by-settings : (answerOf (bench (numbering 200 600 32768) (text "!9924B0002582@@\r\n")) .number ≡ 108)
+      × (answerOf (bench (numbering 200 601 32768) (text "!9924B0002582@@\r\n")) .number ≡ 106)
   -- `ErrorsAgree`: the same frame to two boards whose columns differ
   pub same-error : SameError (bench blank (text "!99299@@\r\n")) (bench (columnsHolding 300 (replicate 700 0x41)) (text "!99299@@\r\n"))
   -- `QueryChangesNothing`: a 208H; `EveryReply`, `NormalReply` and `TestCallBack`: a 200H
@@ -64,6 +64,8 @@ pub record Examples : Type 0 where
   pub four-bytes : 4 ≤ length (text "!99200001234567829\r\n")
   pub run-fits : (length (text "0047") ≡ 4 * columnsOf .unit) × (placeOf columnsOf 300 + length (text "0047") ≤ length (blank .columns))
   pub slot-fits : Fits (pointOf benchDigits)
+  -- and `HighFirst`: eight digits
+  pub eight-digits : length (text "0000002A") ≡ 8
   -- the other contracts can be met, for every call, as `answer`'s can (`can-be-met` in Useless.antt): what they say is not too much
   pub step-back : (a : Areas) → StepsBack a (record { number = backOf a .number; kept = backOf a .areas .kept }) (backOf a .areas)
   pub receive : (f : Found) → Receives f (codeOf f) (startOf f) (lengthOf f) (dropOf f)

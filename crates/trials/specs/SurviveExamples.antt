@@ -7,7 +7,7 @@ use mathlib.Core.List.{List, [], _∷_, _++_}
 use lib.ListN.{take, replicate}
 use Rattle.digits.specs.Text.{text}
 use Rattle.frames.specs.Frame.{normal, replyOf}
-use Rattle.kinds.specs.Kinds.{pointsTag, columnsTag}
+use Rattle.kinds.specs.Kinds.{pointsTag, columnsTag, integersTag, flagsTag}
 use Rattle.listing.specs.Listing.{joined}
 use Rattle.calls.specs.Calls.{Areas, Sent, Call}
 use Rattle.link.specs.Answer.{answerOf}
@@ -36,6 +36,16 @@ integersCall = callOn blank twoIntegers
 
 abbrev pub flagCall : Call
 flagCall = callOn blank oneFlag
+
+-- integer 201 set to -1, flag 608 set, flag 607 set to 0
+abbrev pub nextInteger : Sent
+nextInteger = send "!9924C000C901FFFFFFFF@@\r\n"
+
+abbrev pub nextFlag : Sent
+nextFlag = send "!9924B0002601@@\r\n"
+
+abbrev pub flagOff : Sent
+flagOff = send "!9924B00025F0@@\r\n"
 
 -- column 302 changed, and a history of a small board: the lot code, column 302, a step back, point 1, the count
 abbrev pub oneColumn : Sent
@@ -75,6 +85,14 @@ pub record Examples : Type 0 where
   pub flag-alone : replied (answerOf flagCall .areas) (text "!9920D00025F0001@@\r\n") ≡ replyOf normal 0x99 (text "20D00025F000101")
   pub flag-within : replied (answerOf flagCall .areas) (text "!9920D0002580009@@\r\n") ≡ replyOf normal 0x99 (text "20D00025800098000")
   pub flag-first : replied (answerOf flagCall .areas) (text "!9920D00025F0009@@\r\n") ≡ replyOf normal 0x99 (text "20D00025F00090100")
+  -- of integers 201 to 203, of which the first was written
+  pub integers-overlap : replied (answerOf integersCall .areas) (text "!9920E000C903@@\r\n") ≡ replyOf normal 0x99 (text "20E000C903000000020000000000000000")
+  -- integer 200 and flag 607 where others were written behind them, and the flag set to 0 again
+  pub integer-spared : (untouched integersTag 200 1 (nextInteger ∷ []) ≡ true)
+      × (replied (small ours (frame twoIntegers ∷ frame nextInteger ∷ []) .areas) (text "!9920E000C802@@\r\n") ≡ replyOf normal 0x99 (text "20E000C80200000001FFFFFFFF"))
+  pub flag-spared : (untouched flagsTag 607 1 (nextFlag ∷ []) ≡ true)
+      × (replied (small ours (frame oneFlag ∷ frame nextFlag ∷ []) .areas) (text "!9920D00025F0003@@\r\n") ≡ replyOf normal 0x99 (text "20D00025F000303"))
+  pub flag-off : replied (small ours (frame oneFlag ∷ frame flagOff ∷ []) .areas) (text "!9920D00025F0001@@\r\n") ≡ replyOf normal 0x99 (text "20D00025F000100")
   -- of the 45 points a 209H lists 40, and the last one is read alone
   pub many-listed : take 9 (replied (answerOf manyCall .areas) (text "!9920900102D@@\r\n")) ≡ text "#99209028"
   pub last-read : replied (answerOf manyCall .areas) (text "!9920902D001@@\r\n") ≡ replyOf normal 0x99 (text "20900102D010000000000000000002D")

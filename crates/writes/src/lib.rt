@@ -1,4 +1,5 @@
-// The writes: a run of one kind is put into its area, and what stood there goes into the journal (document 01, "Each message" and "Journal").
+// The writes: a run of one kind is put into its area, and what stood there goes into the journal (document 01, "Each message" and "Journal";
+// document 02, a).
 use areas::runs::clear_run;
 use journal::add;
 use kinds::Held;

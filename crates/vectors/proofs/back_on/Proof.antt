@@ -1,6 +1,5 @@
 use mathlib.Core.Path.{sym}
 use lib.Seq.{length-take-le}
-use borrow.Author.Needs.{needs}
 use Rattle.vectors.proofs.back_on.Statement.{statement}
 use Rattle.vectors.proofs.back_on.Tie as tie
 
