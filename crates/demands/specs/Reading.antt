@@ -121,6 +121,11 @@ pub record FlagRead (board : Conduct) (a : Areas) (m : Message) (s : Sent) (late
       untouched flagsTag (startOf m s) 1 later ≡ true → (start count : ℕ) → holds (kindIn flagsTag a) start count ≡ true → start ≤ startOf m s
       → startOf m s < start + count → FlagShown board a start count (startOf m s) (numberOf (restOf m s))
 
+-- and its byte is the change type: "0 stores 00, 1 stores 01"
+abbrev pub FlagStored : Areas → Message → Sent → List Sent → Type 0
+FlagStored a m s later =
+    untouched flagsTag (startOf m s) 1 later ≡ true → getD (a .flags) (placeOf (kindIn flagsTag a) (startOf m s)) 0 ≡ numberOf (restOf m s)
+
 -- the points that a 244H's digits send, each with its number before its very digits (as 209H lists them, 4-3-5)
 unfoldable pub sent : ℕ → ℕ → List ℕ → List (List ℕ)
 sent zero number digits = []
@@ -161,11 +166,6 @@ pub record PointsGone (board : Conduct) (a : Areas) (m : Message) (s : Sent) (la
   pub listed : untouched pointsTag (startOf m s) (countOf m s) later ≡ true → Says board a (text "209" ++ content s) (text "209000")
   pub each :
       (i : ℕ) → i < countOf m s → untouched pointsTag (startOf m s + i) 1 later ≡ true → Says board a (asksPoints (startOf m s + i) 1) (text "209000")
-
--- and its byte is the change type: "0 stores 00, 1 stores 01"
-abbrev pub FlagStored : Areas → Message → Sent → List Sent → Type 0
-FlagStored a m s later =
-    untouched flagsTag (startOf m s) 1 later ≡ true → getD (a .flags) (placeOf (kindIn flagsTag a) (startOf m s)) 0 ≡ numberOf (restOf m s)
 
 -- what is read, over areas, of the numbers that a write named, where later writes have not touched them
 pub record Reads (board : Conduct) (a : Areas) (m : Message) (s : Sent) (later : List Sent) : Type 0 where
