@@ -121,7 +121,7 @@ pub record FlagRead (board : Conduct) (a : Areas) (m : Message) (s : Sent) (late
       untouched flagsTag (startOf m s) 1 later ≡ true → (start count : ℕ) → holds (kindIn flagsTag a) start count ≡ true → start ≤ startOf m s
       → startOf m s < start + count → FlagShown board a start count (startOf m s) (numberOf (restOf m s))
 
--- and its byte is the change type: "0 stores 00, 1 stores 01"
+-- and its byte is the change type, 00 or 01 (02, a; 4-3-27)
 abbrev pub FlagStored : Areas → Message → Sent → List Sent → Type 0
 FlagStored a m s later =
     untouched flagsTag (startOf m s) 1 later ≡ true → getD (a .flags) (placeOf (kindIn flagsTag a) (startOf m s)) 0 ≡ numberOf (restOf m s)

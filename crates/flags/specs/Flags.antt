@@ -5,17 +5,17 @@ use mathlib.Core.List.{List, [], _∷_}
 use lib.Dec.{eqb}
 use lib.ListN.{getD}
 
--- "A flag is on where its byte isn't 00": 1 where it is on, else 0
+-- a flag is on where its byte isn't 00: 1 where it is on, else 0
 abbrev pub onOf : ℕ → ℕ
 onOf flag = cond (eqb flag 0) 0 1
 
--- so many flags as the bits of a number, "the first [..] in bit 0"; where there are fewer, "bits beyond the count 0"
+-- so many flags as the bits of a number, the first in bit 0; where there are fewer, the bits beyond them are 0
 unfoldable pub bitsOf : ℕ → List ℕ → ℕ
 bitsOf zero flags = 0
 bitsOf (suc many) [] = 0
 bitsOf (suc many) (flag ∷ flags) = onOf flag + 2 * bitsOf many flags
 
--- a byte "for each eight flags begun", where so many flags of the present eight are still to be passed
+-- a byte for each eight flags begun, where so many flags of the present eight are still to be passed
 unfoldable pub eights : ℕ → List ℕ → List ℕ
 eights left [] = []
 eights zero (flag ∷ flags) = bitsOf 8 (flag ∷ flags) ∷ eights 7 flags

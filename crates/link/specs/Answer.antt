@@ -59,7 +59,7 @@ newBytes WritePoints unit count rest = slotsOf count rest
 -- "246H sets the named slots to zero. 24EH sets columns from the start on, one byte for each."
 newBytes ClearRun unit count rest = replicate (count * unit) 0
 newBytes ChangeRun unit count rest = bytesIn rest
--- 24BH, change type: "0 stores 00, 1 stores 01"
+-- 24BH (02, a; 4-3-27): change type 0 stores 00, 1 stores 01
 newBytes SetFlag unit count rest = numberOf rest ∷ []
 
 -- what the reply to each message says after its station ("Each message"; the writes' replies by 4-3-23, 4-3-25, 4-3-27, 4-3-28 and 4-3-30)

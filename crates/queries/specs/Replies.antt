@@ -43,7 +43,7 @@ listText m start count slots = idOf m ++ (digitsOf 3 (length (listed 1011 count 
 abbrev pub runText : Message → Kind → ℕ → ℕ → List ℕ → List ℕ
 runText m k start count area = headOf m start count ++ digitsIn (runOf k start count area)
 
--- 20DH: the reply repeats these and adds "two digits for each eight flags begun" (02, a; 4-3-8)
+-- 20DH: the reply repeats these and adds two digits for each eight flags begun (02, a; 4-3-8: "8 bits from the head flag")
 abbrev pub flagsText : Message → Kind → ℕ → ℕ → List ℕ → List ℕ
 flagsText m k start count area = headOf m start count ++ digitsIn (eights 0 (runOf k start count area))
 

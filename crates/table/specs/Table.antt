@@ -64,7 +64,7 @@ programIn m content = numberOf (take (m .program) content)
 abbrev pub startIn : Message → List ℕ → ℕ
 startIn m content = numberOf (take (m .start) (drop (m .program) content))
 
--- "24BH, which has no count" (02, a), names one
+-- a 24BH has no count (4-3-27) and names one
 abbrev pub countIn : Message → List ℕ → ℕ
 countIn m content = cond (eqb (m .count) 0) 1 (numberOf (take (m .count) (drop (m .program + m .start) content)))
 
@@ -72,7 +72,7 @@ abbrev pub restIn : Message → List ℕ → List ℕ
 restIn m content = drop (fieldsOf m) content
 
 -- what follows is as long as this message's (refusal 103): none, "ten bytes", "axis pattern 2 digits", "exactly count points, each as long as its
--- own pattern says", two digits for each byte of the run, "change type 1" (24BH)
+-- own pattern says", two digits for each byte of the run, a change type of one digit (4-3-27)
 abbrev pub followsRight : Follows → ℕ → ℕ → List ℕ → Bool
 followsRight Nothing unit count rest = eqb (length rest) 0
 followsRight TenBytes unit count rest = eqb (length rest) 10

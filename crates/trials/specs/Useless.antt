@@ -38,7 +38,7 @@ abbrev pub StoresNothing : (Call → Outcome) → Type 0
 StoresNothing answer = (c : Call) → answer c .areas .points ≡ c .areas .points
 
 -- "one that stores a bulk write's first point and only acknowledges the rest": what a 244H names, from the second on, stays; and so what a 24CH names
--- (02, a: "one that stores a 24CH's first integer only")
+-- (02, a): a board that stores its first integer only
 abbrev pub behindFirst : Message → Call → Areas → List ℕ
 behindFirst m c a = runOf (kindOf (held c) (m .tag)) (suc (startOf m (c .sent))) (countOf m (c .sent) - 1) (areaIn (m .tag) a)
 
