@@ -26,7 +26,8 @@ use Rattle.queries.specs.Replies.{headOf, listText}
 use Rattle.queries.proofs.Texts.{head-repeating, head-alone, length-run, length-flags, length-list, length-axes}
 use Rattle.calls.specs.Calls.{Call, Outcome}
 use Rattle.refusals.specs.Refusals.{silentOf}
-use Rattle.link.specs.Answer.{held, asked, rest, saidBy, textOf}
+use Rattle.orders.specs.Orders.{rest, saidBy}
+use Rattle.link.specs.Answer.{held, asked, textOf}
 use Rattle.link.specs.Contract.{Heard}
 use Rattle.link.proofs.Handling as handling
 use Rattle.demands.specs.Replied.{ReplyFits}
@@ -82,9 +83,9 @@ module _ (c : Call) (m : Message) (start count : ℕ) (h : Heard c m start count
       let l = length-run m k start count (3 + length (headOf m start count)) (placeOf k start) (count * k .unit) (runArea (m .tag) (c .areas .columns) (c .areas .integers)) refl refl refl (omega (arith, r .1)) in
       subst Short (handling.run-said c m start count h d refl) (omega (arith, l, r .0 .3))
   said-short AxisStatus d =
-      let p = bitAnd (numberOf (rest c m)) (c .sent .settings .fitted) in
+      let p = bitAnd (numberOf (rest (c .sent) m)) (c .sent .settings .fitted) in
       let b = handling.one-byte c m start count h d refl refl in
-      let l = and-le-l (numberOf (rest c m)) (c .sent .settings .fitted) in
+      let l = and-le-l (numberOf (rest (c .sent) m)) (c .sent .settings .fitted) in
       subst Short (handling.axes-said c m start count h d refl refl)
       (rw (length-axes m p (length (axesOf p)) (c .sent .axes .records) refl) (omega (arith, at-most p (omega arith))))
   said-short WritePoints d = subst Short (handling.points-said c m start count h d) head

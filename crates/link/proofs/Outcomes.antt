@@ -1,6 +1,6 @@
 -- What a handler's contract says, as the outcome.
-use Prim.Native.Nat.{ℕ, _-_}
-use mathlib.Core.Path.{_≡_, refl, sym, ap, ap₂, _∙_}
+use Prim.Native.Nat.{ℕ, _≤_}
+use mathlib.Core.Path.{_≡_, refl, sym, ap, ap₂, _∙_, subst}
 use mathlib.Core.Bool.{Bool, true, false, cond}
 use mathlib.Core.List.{List}
 use native.Mathlib.Omega.{arith}
@@ -9,28 +9,33 @@ use borrow.Author.Tests.{eqb-true}
 use lib.ListN.{length, take}
 use Rattle.digits.specs.Laid.{laid}
 use Rattle.digits.proofs.Laid.{laid-nothing}
-use Rattle.frames.specs.Frame.{errorOf}
+use Rattle.frames.specs.Frame.{contentIn, errorOf, replyOf, normal}
 use Rattle.frames.proofs.Closing.{length-reply}
 use Rattle.kinds.specs.declared.Kind.{Kind}
 use Rattle.kinds.specs.declared.Held.{Held}
 use Rattle.kinds.specs.declared.Firsts.{Firsts}
-use Rattle.kinds.specs.Kinds.{pointsTag, columnsTag, integersTag, flagsTag, pointsOf, columnsOf, integersOf, flagsOf, kindOf, sizeOf, runOf, put}
-use Rattle.kinds.proofs.Known.{own-kind, kind-points, kind-columns, kind-integers, kind-flags, tag-of}
+use Rattle.kinds.specs.Kinds.{pointsTag, columnsTag, integersTag, flagsTag, pointsOf, columnsOf, integersOf, flagsOf, kindOf, runOf, put}
+use Rattle.kinds.proofs.Known.{each-kind, kind-points, kind-columns, kind-integers, kind-flags, tag-of, few}
 use Rattle.journal.specs.Journal.{encodes, entriesIn, added, areaOf, puts, entryFor}
 use Rattle.table.specs.declared.Message.{Message}
 use Rattle.messages.specs.declared.Asked.{Asked}
 use Rattle.messages.specs.declared.Asked.the-variants.{Refused, Order}
 use Rattle.messages.specs.Asked.{numberGiven}
 use Rattle.queries.specs.Laws.{Replied}
-use Rattle.writes.specs.Writes.{Ready, Written}
+use Rattle.writes.specs.Writes.{Written}
 use Rattle.calls.specs.declared.Kept.{Kept}
 use Rattle.calls.specs.Calls.{Areas, Call, Outcome, areasOf, areaIn, written}
-use Rattle.refusals.specs.Refusals.{silentOf}
+use Rattle.refusals.specs.Refusals.{journalFits, silentOf}
+use Rattle.orders.specs.declared.Done.{Done}
+use Rattle.orders.specs.Orders.{rest, writes, newBytes, saidBy}
+use Rattle.orders.specs.Contract.{Ordered, Stored}
+use Rattle.orders.proofs.Judging.{writable}
+use Rattle.orders.proofs.Handling.{content, said-same}
 use Rattle.link.specs.declared.Answered.{Answered}
-use Rattle.link.specs.Answer.{held, asked, writes, saidBy, textOf, areasAfter, unanswered, answerOf}
-use Rattle.link.specs.Contract.{Heard, Answers}
+use Rattle.link.specs.Answer.{held, asked, textOf, areasAfter, unanswered, answerOf}
+use Rattle.link.specs.Contract.{Heard, accepted, Answers}
 use Rattle.link.proofs.Answering.{silent-answer, heard-answer}
-use Rattle.link.proofs.Carrying.{Fine, Named}
+use Rattle.link.proofs.Carrying.{Fine, fine, areas-long}
 
 -- areas of equal parts
 pub same-areas : {p p′ c c′ n n′ f f′ j j′ : List ℕ} {k k′ : Kept} {s : Firsts} → p ≡ p′ → c ≡ c′ → n ≡ n′ → f ≡ f′ → j ≡ j′ → k .used ≡ k′ .used
@@ -72,16 +77,6 @@ answered-refused c k r reply′ s e f g =
     (same-areas refl refl refl refl refl (ap (λ (x : Kept). x .used) (f .2)))
     g
 
-module _ (c : Call) (m : Message) (start count : ℕ) (h : Heard c m start count) (r : Answered) (long left : ℕ) (reply′ : List ℕ)
-    (f : (r .number ≡ 0) × (r .length ≡ long) × (r .kept .used ≡ left))
-    (p : Replied (c .sent .reply) reply′ long (c .sent .settings .station) (saidBy (m .does) c m start count)) where
-  -- an order's reply, with the areas that it leaves
-  pub answered : (areas′ : Areas) → r .kept ≡ areas′ .kept → areas′ ≡ areasAfter c (Order m start count) → Answers c r areas′ reply′
-  answered areas′ k e = answers-by c _ r areas′ reply′ k (asked-so c (Order m start count) (h .silent-0) (h .order)) (f .0) (f .1 ∙ p .length-is) e (p .bytes)
-
-  pub answered-said : writes (m .does) ≡ false → left ≡ c .areas .kept .used → Answers c r (handingOn (c .areas) (r .kept)) reply′
-  answered-said w u = answered (handingOn (c .areas) (r .kept)) refl (rw w (same-areas refl refl refl refl refl (f .2 ∙ u)))
-
 -- areas with another area of a kind, by its tag
 abbrev pub replacing : ℕ → List ℕ → Areas → List ℕ → Kept → Areas
 replacing tag area′ a journal′ kept′ =
@@ -114,19 +109,73 @@ module _ (a : Areas) (h : Held) (tag start count : ℕ) (new area′ journal′ 
       (w .journalled .bytes ∙ ap (λ (t : ℕ). areaOf (length (a .journal)) (added (length (a .journal)) (entriesIn h 0 (take (a .kept .used) (a .journal))) (entryFor t start (runOf (kindOf h tag) start count (areaIn tag a))))) (tag-of h tag))
       (w .journalled .used ∙ ap (λ (t : ℕ). length (encodes (added (length (a .journal)) (entriesIn h 0 (take (a .kept .used) (a .journal))) (entryFor t start (runOf (kindOf h tag) start count (areaIn tag a)))))) (tag-of h tag))
 
--- a board that can be written
-pub ready : (c : Call) (tag start count : ℕ) (area : List ℕ) → Fine c → Named (held c) tag start count → length area ≡ sizeOf (kindOf (held c) tag)
-    → Ready (held c) (kindOf (held c) tag) start count area (c .areas .journal) (c .areas .kept .used)
-ready c tag start count area f n l =
-    record {
-      sound = f .sound-held;
-      own = own-kind (held c) tag;
-      some = n .some;
-      held-all = n .held-all;
-      named = n .named;
-      area-long = l;
-      room = omega (arith, n .few-bytes, f .journal .least);
-      largest = f .journal .most;
-      used-within = f .journal .within;
-      entries-whole = f .journal .entries;
-    }
+-- one of the areas, and the areas with another in its place: where anything of a tag's kind is held, it is that kind's
+pub record Own (a : Areas) (h : Held) (tag : ℕ) (area : List ℕ) (with-it : List ℕ → List ℕ → Kept → Areas) : Type 0 where
+  pub whole : with-it area (a .journal) (a .kept) ≡ a
+  pub kept-is : (x j : List ℕ) (k : Kept) → with-it x j k .kept ≡ k
+  pub area-is : 1 ≤ kindOf h tag .held → area ≡ areaIn tag a
+  pub put-is : 1 ≤ kindOf h tag .held → (x j : List ℕ) (k : Kept) → with-it x j k ≡ replacing tag x a j k
+
+module _ (a : Areas) (h : Held) {tag : ℕ} where
+  pub own-points : (1 ≤ kindOf h tag .held → tag ≡ pointsTag) → Own a h tag (a .points) (λ x j k. areasOf x (a .columns) (a .integers) (a .flags) j k (a .firsts))
+  own-points t = record { whole = refl; kept-is = λ x j k. refl; area-is = λ z. rw (t z); put-is = λ z x j k. rw (t z) }
+
+  pub own-columns : (1 ≤ kindOf h tag .held → tag ≡ columnsTag) → Own a h tag (a .columns) (λ x j k. areasOf (a .points) x (a .integers) (a .flags) j k (a .firsts))
+  own-columns t = record { whole = refl; kept-is = λ x j k. refl; area-is = λ z. rw (t z); put-is = λ z x j k. rw (t z) }
+
+  pub own-integers : (1 ≤ kindOf h tag .held → tag ≡ integersTag) → Own a h tag (a .integers) (λ x j k. areasOf (a .points) (a .columns) x (a .flags) j k (a .firsts))
+  own-integers t = record { whole = refl; kept-is = λ x j k. refl; area-is = λ z. rw (t z); put-is = λ z x j k. rw (t z) }
+
+  pub own-flags : (1 ≤ kindOf h tag .held → tag ≡ flagsTag) → Own a h tag (a .flags) (λ x j k. areasOf (a .points) (a .columns) (a .integers) x j k (a .firsts))
+  own-flags t = record { whole = refl; kept-is = λ x j k. refl; area-is = λ z. rw (t z); put-is = λ z x j k. rw (t z) }
+
+-- of a tag that none of the others is, flags are held or nothing
+pub last-kind : (h : Held) (tag : ℕ) → (tag ≡ pointsTag → ⊥) → (tag ≡ columnsTag → ⊥) → (tag ≡ integersTag → ⊥) → 1 ≤ kindOf h tag .held → tag ≡ flagsTag
+last-kind h tag p c n =
+    each-kind (λ (k : Kind). 1 ≤ k .held → tag ≡ flagsTag) h tag (λ e _. absurd (p e)) (λ e _. absurd (c e)) (λ e _. absurd (n e)) (λ e _. e)
+    (λ z. absurd (omega arith))
+
+-- an order, carried out with one of the areas
+module _ {c : Call} {m : Message} {start count : ℕ} (e : Heard c m start count) {h : Held} (held-is : h ≡ held c) {area : List ℕ} {with-it : List ℕ → List ℕ → Kept → Areas}
+    (w : Own (c .areas) (held c) (m .tag) area with-it) where
+  board : Fine c
+  board = fine c (e .silent-0)
+
+  ordered : Ordered (held c) (c .sent .frame) m start count area
+  ordered =
+      record {
+        sound = board .sound-held;
+        fitted = c .sent .settings .fitted;
+        frame-long = board .frame-long;
+        order = e .order;
+        area-long = λ z. ap length (w .area-is z) ∙ areas-long (c .areas) (board .areas) (m .tag);
+      }
+
+  pub can-carry : Ordered h (c .sent .frame) m start count area × (1024 ≤ length (c .sent .reply)) × (journalFits h (c .areas .journal) (c .areas .kept .used) ≡ true)
+  can-carry = rw held-is (ordered, board .reply-long, board .areas .journal-fits)
+
+  module _ {r : Done} {area′ journal′ reply′ : List ℕ}
+      (p : Replied (c .sent .reply) reply′ (r .length) (c .sent .settings .station) (saidBy (m .does) h (c .sent) m start count area))
+      (s : Stored h m start count (rest (c .sent) m) area area′ (c .areas .journal) journal′ (c .areas .kept .used) (r .kept .used)) where
+    said : saidBy (m .does) h (c .sent) m start count area ≡ saidBy (m .does) (held c) (c .sent) m start count (areaIn (m .tag) (c .areas))
+    said = ap (λ (x : Held). saidBy (m .does) x (c .sent) m start count area) held-is ∙ said-same ordered (c .sent) (w .area-is)
+
+    left : (b : Bool) → writes (m .does) ≡ b
+        → with-it area′ journal′ (r .kept) ≡ cond b (written (held c) (m .tag) start count (newBytes (m .does) (kindOf (held c) (m .tag) .unit) count (rest (c .sent) m)) (c .areas)) (c .areas)
+    left true f =
+        let n = writable (held c) (contentIn (c .sent .frame)) m start count (content ordered) f .run in
+        let z : 1 ≤ kindOf (held c) (m .tag) .held = omega (arith, few (kindOf (held c) (m .tag)) start count (n .held-all), n .some) in
+        w .put-is z area′ journal′ (r .kept) ∙ written-so (c .areas) (held c) (m .tag) start count _ area′ journal′ (r .kept) (rw (held-is, w .area-is z) at (s .wrote f))
+    left false f = let q = s .stayed f in (λ i. with-it (q .0 i) (q .1 i) (record { used = q .2 i })) ∙ w .whole
+
+    pub performed : Answers c (accepted r) (with-it area′ journal′ (r .kept)) reply′
+    performed =
+        answers-by c _ (accepted r) (with-it area′ journal′ (r .kept)) reply′ (sym (w .kept-is area′ journal′ (r .kept))) (asked-so c (Order m start count) (e .silent-0) (e .order)) refl
+        (p .length-is ∙ ap (λ (x : List ℕ). length (replyOf normal (c .sent .settings .station) x)) said)
+        (left (writes (m .does)) refl)
+        (p .bytes ∙ ap (λ (x : List ℕ). laid (c .sent .reply) 0 (replyOf normal (c .sent .settings .station) x)) said)
+
+-- the result that says so
+pub accepted-so : {c : Call} {r : Answered} (done : Done) {p i n f j reply′ : List ℕ} {s : Firsts} → r ≡ accepted done
+    → Answers c (accepted done) (areasOf p i n f j (done .kept) s) reply′ → Answers c r (areasOf p i n f j (r .kept) s) reply′
+accepted-so {c} done {p} {i} {n} {f} {j} {reply′} {s} e a = subst (λ (x : Answered). Answers c x (areasOf p i n f j (x .kept) s) reply′) (sym e) a

@@ -16,7 +16,7 @@ ghost use Prim.Native.Nat.{_+_, _*_, _≤_, _<_};
 ghost use lib.ListN.{length};
 ghost use Rattle.digits.specs.Digits.{digitsOf};
 ghost use Rattle.digits.specs.Laid.{laid};
-ghost use Rattle.kinds.specs.Kinds.{sizeOf, placeOf, runArea};
+ghost use Rattle.kinds.specs.Kinds.{sizeOf, placeOf};
 ghost use Rattle.points.specs.Axes.{axesOf};
 ghost use Rattle.table.specs.Table.{Narrow};
 ghost use Rattle.queries.specs.Replies.{headOf, sameText, countText, listText, runText, flagsText, recordDigits, recordsDigits, axesText};
@@ -80,8 +80,8 @@ pub fn reply_count(reply: &mut [u8], station: u8, m: Message, points: &[u8], n: 
     close_reply(reply, station, 6)
 }
 
-// A run: the head, then two digits for each byte.
-fn reply_run(
+// 210H, 20EH, and every message that reads a run: the head, then two digits for each byte.
+pub fn reply_run(
     reply: &mut [u8],
     station: u8,
     m: Message,
@@ -99,29 +99,6 @@ fn reply_run(
     let many = count * k.unit;
     put_digits(reply, end, &area[at..at + many]);
     close_reply(reply, station, end - 3 + 2 * many)
-}
-
-// 210H, 20EH, and every message that reads a run: the run of the area of its kind.
-pub fn read_run(
-    columns: &[u8],
-    integers: &[u8],
-    reply: &mut [u8],
-    station: u8,
-    m: Message,
-    k: Kind,
-    start: usize,
-    count: usize,
-) -> usize
-    requires { ⌜ Narrow m × (1024 ≤ length (now reply)) × (k .first ≤ start) × (2 * (count * k .unit) ≤ 1000) ⌝ }
-    requires { ⌜ (length (runArea (m .tag) (now columns) (now integers)) ≡ sizeOf k) × (placeOf k start + count * k .unit ≤ sizeOf k)
-        × (sizeOf k < 65536) ⌝ }
-    ensures { λ r. ⌜ Replied (now (reply .entry)) (now (reply .exit)) r station
-        (runText m k start count (runArea (m .tag) (now (columns .entry)) (now (integers .entry)))) ⌝ }
-{
-    if m.tag == Kind::INTEGERS {
-        return reply_run(reply, station, m, k, integers, start, count);
-    }
-    reply_run(reply, station, m, k, columns, start, count)
 }
 
 // 20DH: the head, then two digits for each eight flags begun.
