@@ -2,6 +2,7 @@
 use axes::Axes;
 use calls::Kept;
 use calls::Settings;
+use contents::content;
 use frames::replies::error_reply;
 use journal::find_last;
 use journal::remove;
@@ -12,7 +13,6 @@ use kinds::Kind;
 use kinds::Lengths;
 use kinds::held_in;
 use messages::Asked;
-use messages::content;
 use messages::judge;
 use queries::read_run;
 use queries::reply_axes;
