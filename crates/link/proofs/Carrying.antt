@@ -1,16 +1,20 @@
--- What a heard frame assures of the areas.
+-- What a heard frame assures of the areas, and of its order.
 use Prim.Native.Nat.{ℕ, _≤_}
-use mathlib.Core.Path.{_≡_}
+use mathlib.Core.Path.{_≡_, ap, _∙_}
+use mathlib.Core.List.{List}
 use native.Mathlib.Omega.{arith}
 use lib.ListN.{length}
 use borrow.Author.Tests.{ltb-false, eqb-true}
 use Rattle.kinds.specs.Kinds.{Sound, kindOf, heldIn, sizeOf}
+use Rattle.table.specs.declared.Message.{Message}
 use Rattle.calls.specs.Calls.{Areas, Call, lengthsOf, areaIn}
 use Rattle.calls.proofs.Tagged.{each-long}
 use Rattle.refusals.specs.Refusals.{silentOf}
 use Rattle.refusals.proofs.Rows.{AreasPass, call-passed}
 use Rattle.refusals.proofs.Tested.{Points, Journal, points-fit, variables-fit, journal-fits, shaped-long, sound}
+use Rattle.orders.specs.Contract.{Ordered}
 use Rattle.link.specs.Answer.{held}
+use Rattle.link.specs.Contract.{Heard}
 
 -- what the tests before a reply assure
 pub record Fine (c : Call) : Type 0 where
@@ -39,3 +43,16 @@ areas-long a p =
     let v = variables-fit (length (a .integers)) (length (a .flags)) (a .firsts) (p .variables) in
     each-long (heldIn (lengthsOf a)) a (omega (arith, points-fit (length (a .points)) (p .points) .whole-slots)) (eqb-true _ _ (p .columns)) (v .integers-long)
     (v .flags-long)
+
+-- the order of a heard frame, with the area of its message's kind
+pub ordered : (c : Call) (m : Message) (start count : ℕ) → Heard c m start count → {area : List ℕ} → (1 ≤ kindOf (held c) (m .tag) .held → area ≡ areaIn (m .tag) (c .areas))
+    → Ordered (held c) (c .sent .frame) m start count area
+ordered c m start count e w =
+    let f = fine c (e .silent-0) in
+    record {
+      sound = f .sound-held;
+      fitted = c .sent .settings .fitted;
+      frame-long = f .frame-long;
+      order = e .order;
+      area-long = λ z. ap length (w z) ∙ areas-long (c .areas) (f .areas) (m .tag);
+    }

@@ -35,7 +35,7 @@ use Rattle.link.specs.declared.Answered.{Answered}
 use Rattle.link.specs.Answer.{held, asked, textOf, areasAfter, unanswered, answerOf}
 use Rattle.link.specs.Contract.{Heard, accepted, Answers}
 use Rattle.link.proofs.Answering.{silent-answer, heard-answer}
-use Rattle.link.proofs.Carrying.{Fine, fine, areas-long}
+use Rattle.link.proofs.Carrying.{Fine, fine, ordered}
 
 -- areas of equal parts
 pub same-areas : {p p′ c c′ n n′ f f′ j j′ : List ℕ} {k k′ : Kept} {s : Firsts} → p ≡ p′ → c ≡ c′ → n ≡ n′ → f ≡ f′ → j ≡ j′ → k .used ≡ k′ .used
@@ -141,29 +141,22 @@ module _ {c : Call} {m : Message} {start count : ℕ} (e : Heard c m start count
   board : Fine c
   board = fine c (e .silent-0)
 
-  ordered : Ordered (held c) (c .sent .frame) m start count area
-  ordered =
-      record {
-        sound = board .sound-held;
-        fitted = c .sent .settings .fitted;
-        frame-long = board .frame-long;
-        order = e .order;
-        area-long = λ z. ap length (w .area-is z) ∙ areas-long (c .areas) (board .areas) (m .tag);
-      }
+  order : Ordered (held c) (c .sent .frame) m start count area
+  order = ordered c m start count e (w .area-is)
 
   pub can-carry : Ordered h (c .sent .frame) m start count area × (1024 ≤ length (c .sent .reply)) × (journalFits h (c .areas .journal) (c .areas .kept .used) ≡ true)
-  can-carry = rw held-is (ordered, board .reply-long, board .areas .journal-fits)
+  can-carry = rw held-is (order, board .reply-long, board .areas .journal-fits)
 
   module _ {r : Done} {area′ journal′ reply′ : List ℕ}
       (p : Replied (c .sent .reply) reply′ (r .length) (c .sent .settings .station) (saidBy (m .does) h (c .sent) m start count area))
       (s : Stored h m start count (rest (c .sent) m) area area′ (c .areas .journal) journal′ (c .areas .kept .used) (r .kept .used)) where
     said : saidBy (m .does) h (c .sent) m start count area ≡ saidBy (m .does) (held c) (c .sent) m start count (areaIn (m .tag) (c .areas))
-    said = ap (λ (x : Held). saidBy (m .does) x (c .sent) m start count area) held-is ∙ said-same ordered (c .sent) (w .area-is)
+    said = ap (λ (x : Held). saidBy (m .does) x (c .sent) m start count area) held-is ∙ said-same order (c .sent) (w .area-is)
 
     left : (b : Bool) → writes (m .does) ≡ b
         → with-it area′ journal′ (r .kept) ≡ cond b (written (held c) (m .tag) start count (newBytes (m .does) (kindOf (held c) (m .tag) .unit) count (rest (c .sent) m)) (c .areas)) (c .areas)
     left true f =
-        let n = writable (held c) (contentIn (c .sent .frame)) m start count (content ordered) f .run in
+        let n = writable (held c) (contentIn (c .sent .frame)) m start count (content order) f .run in
         let z : 1 ≤ kindOf (held c) (m .tag) .held = omega (arith, few (kindOf (held c) (m .tag)) start count (n .held-all), n .some) in
         w .put-is z area′ journal′ (r .kept) ∙ written-so (c .areas) (held c) (m .tag) start count _ area′ journal′ (r .kept) (rw (held-is, w .area-is z) at (s .wrote f))
     left false f = let q = s .stayed f in (λ i. with-it (q .0 i) (q .1 i) (record { used = q .2 i })) ∙ w .whole

@@ -2,8 +2,8 @@
 use axes::Axes;
 use calls::Kept;
 use calls::Settings;
+use contents::content;
 use kinds::Held;
-use messages::content;
 use queries::reply_axes;
 use queries::reply_count;
 use queries::reply_flags;

@@ -14,9 +14,9 @@ use Rattle.points.proofs.Measured.{least, fills-next, fills-front, rest-of}
 use Rattle.digits.proofs.Inverse.{inverse}
 use Rattle.table.specs.Table.{patternFits, patternsFit}
 use Rattle.digits.proofs.Bools.{was-false, was-true}
-use Rattle.messages.proofs.Patterns.{patterns-next, patterns-stop, patterns-done}
-use Rattle.messages.proofs.fit_patterns.Statement.{statement}
-use Rattle.messages.proofs.fit_patterns.Tie as tie
+use Rattle.contents.proofs.Patterns.{patterns-next, patterns-stop, patterns-done}
+use Rattle.contents.proofs.fit_patterns.Statement.{statement}
+use Rattle.contents.proofs.fit_patterns.Tie as tie
 
 abbrev Inv-loop : tie.InvT-loop
 Inv-loop digits count fitted at₀ left₀ at left = (at ≤ length digits) × (fillsOf left (drop at digits) ≡ true) × (patternsFit fitted left (drop at digits) ≡ patternsFit fitted count digits)

@@ -1,8 +1,8 @@
 use native.Mathlib.Omega.{arith}
 use borrow.Author.Needs.{needs}
 use Rattle.digits.proofs.Bools.{was-false, was-true}
-use Rattle.messages.proofs.is_unlisted.Statement.{statement}
-use Rattle.messages.proofs.is_unlisted.Tie as tie
+use Rattle.contents.proofs.is_unlisted.Statement.{statement}
+use Rattle.contents.proofs.is_unlisted.Tie as tie
 
 is-type-requires : tie.Need-is-type-requires
 is-type-requires c κs = search needs

@@ -3,8 +3,8 @@ use mathlib.Core.Path.{_≡_, refl, sym, ap, _∙_}
 use native.Mathlib.Omega.{arith}
 use lib.ListN.{length, take, drop}
 use borrow.Author.Needs.{needs}
-use Rattle.messages.proofs.content.Statement.{statement}
-use Rattle.messages.proofs.content.Tie as tie
+use Rattle.contents.proofs.content.Statement.{statement}
+use Rattle.contents.proofs.content.Tie as tie
 
 sub-end : tie.Need-sub-end
 sub-end c = search needs

@@ -1,8 +1,8 @@
 use mathlib.Core.Path.{_≡_, refl, sym, ap, _∙_}
 use borrow.Author.Needs.{needs}
 use Rattle.digits.proofs.Bools.{was-false, was-true}
-use Rattle.messages.proofs.is_unfit.Statement.{statement}
-use Rattle.messages.proofs.is_unfit.Tie as tie
+use Rattle.contents.proofs.is_unfit.Statement.{statement}
+use Rattle.contents.proofs.is_unfit.Tie as tie
 
 is-points-requires : tie.Need-is-points-requires
 is-points-requires c κs = search needs

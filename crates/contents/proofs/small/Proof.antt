@@ -6,8 +6,8 @@ use native.Mathlib.Nat.{pow-le-pow-right}
 use Prim.Native.Nat.{_^_}
 use Rattle.digits.proofs.Inverse.{inverse}
 use borrow.Author.Needs.{needs}
-use Rattle.messages.proofs.small.Statement.{statement}
-use Rattle.messages.proofs.small.Tie as tie
+use Rattle.contents.proofs.small.Statement.{statement}
+use Rattle.contents.proofs.small.Tie as tie
 
 number-requires : tie.Need-number-requires
 number-requires c κs = search needs

@@ -1,7 +1,7 @@
 use borrow.Author.Tests.{eq-eqb, ne-eqb}
 use Rattle.table.specs.Table.{patternFits}
-use Rattle.messages.proofs.fits_pattern.Statement.{statement}
-use Rattle.messages.proofs.fits_pattern.Tie as tie
+use Rattle.contents.proofs.fits_pattern.Statement.{statement}
+use Rattle.contents.proofs.fits_pattern.Tie as tie
 
 returns : tie.Need-returns
 unfolding patternFits

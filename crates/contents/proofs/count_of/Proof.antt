@@ -1,8 +1,8 @@
 use borrow.Author.Needs.{needs}
 use borrow.Author.Tests.{eq-eqb, ne-eqb}
 use native.Mathlib.Omega.{arith}
-use Rattle.messages.proofs.count_of.Statement.{statement}
-use Rattle.messages.proofs.count_of.Tie as tie
+use Rattle.contents.proofs.count_of.Statement.{statement}
+use Rattle.contents.proofs.count_of.Tie as tie
 
 returns : tie.Need-returns
 returns c = (rw (eq-eqb _ _ (c .if1 .taken)), omega arith)

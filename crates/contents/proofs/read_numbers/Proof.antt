@@ -2,10 +2,10 @@ use mathlib.Core.Path.{sym}
 use native.Mathlib.Omega.{arith}
 use native.Mathlib.Nat.{add-sub-cancel-left}
 use lib.Seq.{length-take-le}
-use Rattle.messages.proofs.Judged.{counted}
+use Rattle.contents.proofs.Counted.{counted}
 use borrow.Author.Needs.{needs}
-use Rattle.messages.proofs.read_numbers.Statement.{statement}
-use Rattle.messages.proofs.read_numbers.Tie as tie
+use Rattle.contents.proofs.read_numbers.Statement.{statement}
+use Rattle.contents.proofs.read_numbers.Tie as tie
 
 add-s : tie.Need-add-s
 add-s c = search needs
