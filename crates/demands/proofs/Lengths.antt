@@ -22,14 +22,14 @@ use Rattle.table.specs.Table.{Narrow}
 use Rattle.messages.specs.declared.Asked.{Asked}
 use Rattle.messages.specs.declared.Asked.the-variants.{Refused, Order}
 use Rattle.listing.specs.Listing.{listing, listed, joined}
-use Rattle.queries.specs.Replies.{headOf, listText}
+use Rattle.queries.specs.Replies.{headOf, listText, runText, flagsText}
 use Rattle.queries.proofs.Texts.{head-repeating, head-alone, length-run, length-flags, length-list, length-axes}
 use Rattle.calls.specs.Calls.{Call, Outcome, areaIn}
 use Rattle.refusals.specs.Refusals.{silentOf}
 use Rattle.orders.specs.Orders.{rest, saidBy}
 use Rattle.link.specs.Answer.{held, asked, textOf}
 use Rattle.link.specs.Contract.{Heard}
-use Rattle.link.proofs.Carrying.{ordered}
+use Rattle.link.proofs.Carrying.{fine, ordered}
 use Rattle.orders.specs.Contract.{Ordered}
 use Rattle.orders.proofs.Handling as handling
 use Rattle.demands.specs.Replied.{ReplyFits}
@@ -69,7 +69,7 @@ abbrev Short : List ℕ → Type 0
 Short t = length t ≤ 1017
 
 module _ (c : Call) (m : Message) (start count : ℕ) (h : Heard c m start count) where
-  area : List ℕ
+  abbrev area : List ℕ
   area = areaIn (m .tag) (c .areas)
 
   order : Ordered (held c) (c .sent .frame) m start count area
@@ -79,8 +79,8 @@ module _ (c : Call) (m : Message) (start count : ℕ) (h : Heard c m start count
   head = omega (arith, head-short m start count (handling.content order .narrow))
 
   -- a run's digits behind the head
-  run-short : (n : ℕ) → n ≤ 1000 → {t : List ℕ} → length t ≡ 3 + length (headOf m start count) - 3 + n → Short t
-  run-short n l e = let s = head-short m start count (handling.content order .narrow) in omega (arith, e, l, s)
+  run-short : (t : List ℕ) (n : ℕ) → n ≤ 1000 → length t ≡ 3 + length (headOf m start count) - 3 + n → Short t
+  run-short t n l e = let s = head-short m start count (handling.content order .narrow) in omega (arith, e, l, s)
 
   -- what is said after the station, by what the message has the board do
   said-short : (a : Action) → m .does ≡ a → Short (saidBy a (held c) (c .sent) m start count area)
@@ -89,8 +89,8 @@ module _ (c : Call) (m : Message) (start count : ℕ) (h : Heard c m start count
   said-short ListPoints d = list-short m start count _
   said-short ReadRun d =
       let k = kindOf (held c) (m .tag) in
-      let r = handling.run-needs order d (omega arith) refl in
-      run-short (2 * (count * k .unit)) (r .0 .3)
+      let r = handling.run-needs order d (fine c (h .silent-0) .reply-long) refl in
+      run-short (runText m k start count area) (2 * (count * k .unit)) (r .0 .3)
       (length-run m k start count (3 + length (headOf m start count)) (placeOf k start) (count * k .unit) area refl refl refl (omega (arith, r .1)))
   said-short AxisStatus d =
       let p = bitAnd (numberOf (rest (c .sent) m)) (c .sent .settings .fitted) in
@@ -102,9 +102,9 @@ module _ (c : Call) (m : Message) (start count : ℕ) (h : Heard c m start count
   said-short ChangeRun d = head
   said-short ShowFlags d =
       let k = kindOf (held c) (m .tag) in
-      let r = handling.flags-needs order d (omega arith) refl in
+      let r = handling.flags-needs order d (fine c (h .silent-0) .reply-long) refl in
       let l = length-flags m k start count (3 + length (headOf m start count)) (placeOf k start) (count * k .unit) area refl refl refl (omega (arith, r .1)) in
-      run-short (2 * ((count * k .unit + 7) / 8)) (omega (arith, r .0 .3)) l
+      run-short (flagsText m k start count area) (2 * ((count * k .unit + 7) / 8)) (omega (arith, r .0 .3)) l
   said-short SetFlag d = head
 
 -- the reply to what a heard frame asks
