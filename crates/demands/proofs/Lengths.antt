@@ -28,7 +28,6 @@ use Rattle.calls.specs.Calls.{Call, Outcome, areaIn}
 use Rattle.refusals.specs.Refusals.{silentOf}
 use Rattle.orders.specs.Orders.{rest, saidBy}
 use Rattle.link.specs.Answer.{held, asked, textOf}
-use Rattle.link.specs.Contract.{Heard}
 use Rattle.link.proofs.Carrying.{fine, ordered}
 use Rattle.orders.specs.Contract.{Ordered}
 use Rattle.orders.proofs.Handling as handling
@@ -68,12 +67,12 @@ head-short m start count n = go (m .repeats) refl
 abbrev Short : List ℕ → Type 0
 Short t = length t ≤ 1017
 
-module _ (c : Call) (m : Message) (start count : ℕ) (h : Heard c m start count) where
+module _ (c : Call) (m : Message) (start count : ℕ) (z : silentOf c ≡ 0) (e : asked c ≡ Order m start count) where
   abbrev area : List ℕ
   area = areaIn (m .tag) (c .areas)
 
-  order : Ordered (held c) (c .sent .frame) m start count area
-  order = ordered c m start count h (λ _. refl)
+  order : Ordered (record { message = m; start = start; count = count; held = held c }) (c .sent .frame) area
+  order = ordered c _ (record { silent-0 = z; held-is = refl; order = e }) (λ _. refl)
 
   head : Short (headOf m start count)
   head = omega (arith, head-short m start count (handling.content order .narrow))
@@ -89,7 +88,7 @@ module _ (c : Call) (m : Message) (start count : ℕ) (h : Heard c m start count
   said-short ListPoints d = list-short m start count _
   said-short ReadRun d =
       let k = kindOf (held c) (m .tag) in
-      let r = handling.run-needs order d (fine c (h .silent-0) .reply-long) refl in
+      let r = handling.run-needs order d (fine c z .reply-long) refl in
       run-short (runText m k start count area) (2 * (count * k .unit)) (r .0 .3)
       (length-run m k start count (3 + length (headOf m start count)) (placeOf k start) (count * k .unit) area refl refl refl (omega (arith, r .1)))
   said-short AxisStatus d =
@@ -102,7 +101,7 @@ module _ (c : Call) (m : Message) (start count : ℕ) (h : Heard c m start count
   said-short ChangeRun d = head
   said-short ShowFlags d =
       let k = kindOf (held c) (m .tag) in
-      let r = handling.flags-needs order d (fine c (h .silent-0) .reply-long) refl in
+      let r = handling.flags-needs order d (fine c z .reply-long) refl in
       let l = length-flags m k start count (3 + length (headOf m start count)) (placeOf k start) (count * k .unit) area refl refl refl (omega (arith, r .1)) in
       run-short (flagsText m k start count area) (2 * ((count * k .unit + 7) / 8)) (omega (arith, r .0 .3)) l
   said-short SetFlag d = head
@@ -112,7 +111,7 @@ asked-short : (c : Call) (a : Asked) → silentOf c ≡ 0 → asked c ≡ a → 
 asked-short c (Refused k) z e = rw (length-reply error (c .sent .settings .station) (threeOf k)) (omega arith)
 asked-short c (Order m start count) z e =
     rw (length-reply normal (c .sent .settings .station) (saidBy (m .does) (held c) (c .sent) m start count (areaIn (m .tag) (c .areas))))
-    (omega (arith, said-short c m start count (record { silent-0 = z; order = e }) (m .does) refl))
+    (omega (arith, said-short c m start count z e (m .does) refl))
 
 pub reply-fits : ReplyFits
 reply-fits c =

@@ -6,12 +6,12 @@ use native.Mathlib.Omega.{arith}
 use lib.ListN.{length}
 use borrow.Author.Tests.{ltb-false, eqb-true}
 use Rattle.kinds.specs.Kinds.{Sound, kindOf, heldIn, sizeOf}
-use Rattle.table.specs.declared.Message.{Message}
 use Rattle.calls.specs.Calls.{Areas, Call, lengthsOf, areaIn}
 use Rattle.calls.proofs.Tagged.{each-long}
 use Rattle.refusals.specs.Refusals.{silentOf}
 use Rattle.refusals.proofs.Rows.{AreasPass, call-passed}
 use Rattle.refusals.proofs.Tested.{Points, Journal, points-fit, variables-fit, journal-fits, shaped-long, sound}
+use Rattle.orders.specs.declared.Order.{Order}
 use Rattle.orders.specs.Contract.{Ordered}
 use Rattle.link.specs.Answer.{held}
 use Rattle.link.specs.Contract.{Heard}
@@ -45,14 +45,14 @@ areas-long a p =
     (v .flags-long)
 
 -- the order of a heard frame, with the area of its message's kind
-pub ordered : (c : Call) (m : Message) (start count : ℕ) → Heard c m start count → {area : List ℕ} → (1 ≤ kindOf (held c) (m .tag) .held → area ≡ areaIn (m .tag) (c .areas))
-    → Ordered (held c) (c .sent .frame) m start count area
-ordered c m start count e w =
+pub ordered : (c : Call) (o : Order) → Heard c o → {area : List ℕ}
+    → (1 ≤ kindOf (held c) (o .message .tag) .held → area ≡ areaIn (o .message .tag) (c .areas)) → Ordered o (c .sent .frame) area
+ordered c o e w =
     let f = fine c (e .silent-0) in
     record {
-      sound = f .sound-held;
+      sound = rw (e .held-is) (f .sound-held);
       fitted = c .sent .settings .fitted;
       frame-long = f .frame-long;
-      order = e .order;
-      area-long = λ z. ap length (w z) ∙ areas-long (c .areas) (f .areas) (m .tag);
+      order = rw (e .held-is) (e .order);
+      area-long = rw (e .held-is) (λ z. ap length (w z) ∙ areas-long (c .areas) (f .areas) (o .message .tag));
     }

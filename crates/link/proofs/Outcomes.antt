@@ -17,18 +17,18 @@ use Rattle.kinds.specs.declared.Firsts.{Firsts}
 use Rattle.kinds.specs.Kinds.{pointsTag, columnsTag, integersTag, flagsTag, pointsOf, columnsOf, integersOf, flagsOf, kindOf, runOf, put}
 use Rattle.kinds.proofs.Known.{each-kind, kind-points, kind-columns, kind-integers, kind-flags, tag-of, few}
 use Rattle.journal.specs.Journal.{encodes, entriesIn, added, areaOf, puts, entryFor}
-use Rattle.table.specs.declared.Message.{Message}
 use Rattle.messages.specs.declared.Asked.{Asked}
-use Rattle.messages.specs.declared.Asked.the-variants.{Refused, Order}
+use Rattle.messages.specs.declared.Asked.the-variants as asks
+use Rattle.messages.specs.declared.Asked.the-variants.{Refused}
 use Rattle.messages.specs.Asked.{numberGiven}
-use Rattle.queries.specs.Laws.{Replied}
 use Rattle.writes.specs.Writes.{Written}
 use Rattle.calls.specs.declared.Kept.{Kept}
 use Rattle.calls.specs.Calls.{Areas, Call, Outcome, areasOf, areaIn, written}
 use Rattle.refusals.specs.Refusals.{journalFits, silentOf}
+use Rattle.orders.specs.declared.Order.{Order}
 use Rattle.orders.specs.declared.Done.{Done}
 use Rattle.orders.specs.Orders.{rest, writes, newBytes, saidBy}
-use Rattle.orders.specs.Contract.{Ordered, Stored}
+use Rattle.orders.specs.Contract.{kindIn, Ordered, Says, Stores}
 use Rattle.orders.proofs.Judging.{writable}
 use Rattle.orders.proofs.Handling.{content, said-same}
 use Rattle.link.specs.declared.Answered.{Answered}
@@ -136,36 +136,41 @@ last-kind h tag p c n =
     (λ z. absurd (omega arith))
 
 -- an order, carried out with one of the areas
-module _ {c : Call} {m : Message} {start count : ℕ} (e : Heard c m start count) {h : Held} (held-is : h ≡ held c) {area : List ℕ} {with-it : List ℕ → List ℕ → Kept → Areas}
-    (w : Own (c .areas) (held c) (m .tag) area with-it) where
+module _ {c : Call} {o : Order} (e : Heard c o) {area : List ℕ} {with-it : List ℕ → List ℕ → Kept → Areas} (w : Own (c .areas) (held c) (o .message .tag) area with-it) where
   board : Fine c
   board = fine c (e .silent-0)
 
-  order : Ordered (held c) (c .sent .frame) m start count area
-  order = ordered c m start count e (w .area-is)
+  can : Ordered o (c .sent .frame) area
+  can = ordered c o e (w .area-is)
 
-  pub can-carry : Ordered h (c .sent .frame) m start count area × (1024 ≤ length (c .sent .reply)) × (journalFits h (c .areas .journal) (c .areas .kept .used) ≡ true)
-  can-carry = rw held-is (order, board .reply-long, board .areas .journal-fits)
+  pub can-carry : Ordered o (c .sent .frame) area × (1024 ≤ length (c .sent .reply)) × (journalFits (o .held) (c .areas .journal) (c .areas .kept .used) ≡ true)
+  can-carry = (can, board .reply-long, rw (e .held-is) (board .areas .journal-fits))
 
-  module _ {r : Done} {area′ journal′ reply′ : List ℕ}
-      (p : Replied (c .sent .reply) reply′ (r .length) (c .sent .settings .station) (saidBy (m .does) h (c .sent) m start count area))
-      (s : Stored h m start count (rest (c .sent) m) area area′ (c .areas .journal) journal′ (c .areas .kept .used) (r .kept .used)) where
-    said : saidBy (m .does) h (c .sent) m start count area ≡ saidBy (m .does) (held c) (c .sent) m start count (areaIn (m .tag) (c .areas))
-    said = ap (λ (x : Held). saidBy (m .does) x (c .sent) m start count area) held-is ∙ said-same order (c .sent) (w .area-is)
+  module _ {r : Done} {area′ journal′ reply′ : List ℕ} (p : Says o (c .sent) area (r .length) reply′)
+      (s : Stores o (c .sent .frame) area area′ (c .areas .journal) journal′ (c .areas .kept .used) (r .kept .used)) where
+    abbrev does : Held → List ℕ → List ℕ
+    does h own = saidBy (o .message .does) h (c .sent) (o .message) (o .start) (o .count) own
 
-    left : (b : Bool) → writes (m .does) ≡ b
-        → with-it area′ journal′ (r .kept) ≡ cond b (written (held c) (m .tag) start count (newBytes (m .does) (kindOf (held c) (m .tag) .unit) count (rest (c .sent) m)) (c .areas)) (c .areas)
+    said : does (o .held) area ≡ does (held c) (areaIn (o .message .tag) (c .areas))
+    said = ap (λ (h : Held). does h area) (e .held-is) ∙ rw (e .held-is) at (said-same can {own = areaIn (o .message .tag) (c .areas)} (c .sent) (rw (e .held-is) (w .area-is)))
+
+    left : (b : Bool) → writes (o .message .does) ≡ b
+        → with-it area′ journal′ (r .kept)
+        ≡ cond b (written (held c) (o .message .tag) (o .start) (o .count) (newBytes (o .message .does) (kindOf (held c) (o .message .tag) .unit) (o .count) (rest (c .sent) (o .message))) (c .areas)) (c .areas)
     left true f =
-        let n = writable (held c) (contentIn (c .sent .frame)) m start count (content order) f .run in
-        let z : 1 ≤ kindOf (held c) (m .tag) .held = omega (arith, few (kindOf (held c) (m .tag)) start count (n .held-all), n .some) in
-        w .put-is z area′ journal′ (r .kept) ∙ written-so (c .areas) (held c) (m .tag) start count _ area′ journal′ (r .kept) (rw (held-is, w .area-is z) at (s .wrote f))
+        let n = writable (o .held) (contentIn (c .sent .frame)) (o .message) (o .start) (o .count) (content can) f .run in
+        let z : 1 ≤ kindOf (held c) (o .message .tag) .held = rw (sym (e .held-is)) (omega (arith, few (kindIn o) (o .start) (o .count) (n .held-all), n .some)) in
+        w .put-is z area′ journal′ (r .kept)
+        ∙ written-so (c .areas) (held c) (o .message .tag) (o .start) (o .count) _ area′ journal′ (r .kept) (rw (e .held-is, w .area-is z) at (s .wrote f))
     left false f = let q = s .stayed f in (λ i. with-it (q .0 i) (q .1 i) (record { used = q .2 i })) ∙ w .whole
 
     pub performed : Answers c (accepted r) (with-it area′ journal′ (r .kept)) reply′
     performed =
-        answers-by c _ (accepted r) (with-it area′ journal′ (r .kept)) reply′ (sym (w .kept-is area′ journal′ (r .kept))) (asked-so c (Order m start count) (e .silent-0) (e .order)) refl
+        answers-by c _ (accepted r) (with-it area′ journal′ (r .kept)) reply′ (sym (w .kept-is area′ journal′ (r .kept)))
+        (asked-so c (asks.Order (o .message) (o .start) (o .count)) (e .silent-0) (e .order))
+        refl
         (p .length-is ∙ ap (λ (x : List ℕ). length (replyOf normal (c .sent .settings .station) x)) said)
-        (left (writes (m .does)) refl)
+        (left (writes (o .message .does)) refl)
         (p .bytes ∙ ap (λ (x : List ℕ). laid (c .sent .reply) 0 (replyOf normal (c .sent .settings .station) x)) said)
 
 -- the result that says so

@@ -14,19 +14,19 @@ use kinds::held_in;
 use messages::Asked;
 use messages::judge;
 use orders::Done;
+use orders::Order;
 use orders::carry_out;
 use refusals::back_refusal;
 use refusals::silent;
-use table::Message;
 ghost use mathlib.Core.Path.{_≡_};
 ghost use Prim.Native.Nat.{_≤_};
 ghost use lib.ListN.{length};
 ghost use Rattle.digits.specs.Laid.{laid};
 ghost use Rattle.frames.specs.Frame.{errorOf};
-ghost use Rattle.kinds.specs.Kinds.{Sound, heldIn, pointsOf, columnsOf, integersOf, flagsOf, sizeOf};
+ghost use Rattle.kinds.specs.Kinds.{Sound, pointsOf, columnsOf, integersOf, flagsOf, sizeOf};
 ghost use Rattle.journal.specs.Journal.{puts, entryFor};
 ghost use Rattle.journal.specs.Laws.{Good};
-ghost use Rattle.calls.specs.Calls.{areasOf, callOf, lengthsOf};
+ghost use Rattle.calls.specs.Calls.{areasOf, callOf};
 ghost use Rattle.link.specs.Contract.{Heard, accepted, Answers, StepsBack};
 
 // The answer to a frame: its number, the reply's length, what is handed on.
@@ -68,11 +68,9 @@ fn refuse(reply: &mut [u8], station: u8, number: u16, kept: Kept) -> Answered
     }
 }
 
-// An order carried out in the area of the message's kind; a message of no kind is handed the last one, and leaves it.
+// An order carried out in the area of the message's kind; a message that asks of no kind is handed the last one, and leaves it.
 fn perform(
-    m: Message,
-    start: usize,
-    count: usize,
+    order: Order,
     frame: &[u8],
     points: &mut [u8],
     columns: &mut [u8],
@@ -81,77 +79,28 @@ fn perform(
     journal: &mut [u8],
     kept: Kept,
     firsts: Firsts,
-    held: Held,
     axes: Axes,
     settings: Settings,
     reply: &mut [u8],
 ) -> Done
-    requires { ⌜ Heard (callOf (now frame) axes settings (now reply) (areasOf (now points) (now columns) (now integers) (now flags) (now journal) kept firsts)) m start count ⌝ }
-    requires { ⌜ held ≡ heldIn (lengthsOf (areasOf (now points) (now columns) (now integers) (now flags) (now journal) kept firsts)) ⌝ }
+    requires { ⌜ Heard (callOf (now frame) axes settings (now reply) (areasOf (now points) (now columns) (now integers) (now flags) (now journal) kept firsts)) order ⌝ }
     ensures { λ r. ⌜ Answers
         (callOf (now (frame .entry)) axes settings (now (reply .entry))
         (areasOf (now (points .entry)) (now (columns .entry)) (now (integers .entry)) (now (flags .entry)) (now (journal .entry)) kept firsts))
         (accepted r) (areasOf (now (points .exit)) (now (columns .exit)) (now (integers .exit)) (now (flags .exit)) (now (journal .exit)) (r .kept) firsts) (now (reply .exit)) ⌝ }
 {
+    let m = order.message;
     let tag = m.tag;
     if tag == Kind::POINTS {
-        return carry_out(
-            m,
-            start,
-            count,
-            frame,
-            points,
-            journal,
-            kept,
-            held,
-            axes,
-            settings,
-            reply,
-        );
+        return carry_out(order, frame, points, journal, kept, axes, settings, reply);
     }
     if tag == Kind::COLUMNS {
-        return carry_out(
-            m,
-            start,
-            count,
-            frame,
-            columns,
-            journal,
-            kept,
-            held,
-            axes,
-            settings,
-            reply,
-        );
+        return carry_out(order, frame, columns, journal, kept, axes, settings, reply);
     }
     if tag == Kind::INTEGERS {
-        return carry_out(
-            m,
-            start,
-            count,
-            frame,
-            integers,
-            journal,
-            kept,
-            held,
-            axes,
-            settings,
-            reply,
-        );
+        return carry_out(order, frame, integers, journal, kept, axes, settings, reply);
     }
-    carry_out(
-        m,
-        start,
-        count,
-        frame,
-        flags,
-        journal,
-        kept,
-        held,
-        axes,
-        settings,
-        reply,
-    )
+    carry_out(order, frame, flags, journal, kept, axes, settings, reply)
 }
 
 // The answer to a frame: any bytes, any areas, any lengths.
@@ -196,23 +145,28 @@ pub fn answer(
             message,
             start,
             count,
-        } => accept(perform(
-            message,
-            start,
-            count,
-            frame,
-            points,
-            columns,
-            integers,
-            flags,
-            journal,
-            kept,
-            firsts,
-            held,
-            axes,
-            settings,
-            reply,
-        )),
+        } => {
+            let order = Order {
+                message,
+                start,
+                count,
+                held,
+            };
+            accept(perform(
+                order,
+                frame,
+                points,
+                columns,
+                integers,
+                flags,
+                journal,
+                kept,
+                firsts,
+                axes,
+                settings,
+                reply,
+            ))
+        }
     }
 }
 

@@ -32,10 +32,23 @@ use Rattle.calls.specs.Calls.{Sent}
 use Rattle.refusals.specs.Refusals.{journalFits}
 use Rattle.refusals.proofs.Tested.{journal-fits}
 use Rattle.orders.specs.Orders.{rest, writes, newBytes, saidBy}
-use Rattle.orders.specs.Contract.{Ordered, Stored}
+use Rattle.orders.specs.declared.Order.{Order}
+use Rattle.orders.specs.Contract.{kindIn, Ordered, Stores}
 use Rattle.orders.proofs.Judging.{Judged, judged-so, Writable, writable, not-so}
 
-module _ {h : Held} {frame : List ℕ} {m : Message} {start count : ℕ} {area : List ℕ} (o : Ordered h frame m start count area) where
+module _ {x : Order} {frame area : List ℕ} (o : Ordered x frame area) where
+  abbrev h : Held
+  h = x .held
+
+  abbrev m : Message
+  m = x .message
+
+  abbrev start : ℕ
+  start = x .start
+
+  abbrev count : ℕ
+  count = x .count
+
   pub content : Judged h (contentIn frame) m start count
   content = judged-so h (o .fitted) frame m start count (o .order)
 
@@ -226,11 +239,11 @@ module _ {h : Held} {frame : List ℕ} {m : Message} {start count : ℕ} {area :
     )
 
 -- what each message stores
-module _ {h : Held} {m : Message} {start count : ℕ} {follow area journal : List ℕ} {used : ℕ} where
-  pub stays : writes (m .does) ≡ false → Stored h m start count follow area area journal journal used used
+module _ {x : Order} {frame area journal : List ℕ} {used : ℕ} where
+  pub stays : writes (x .message .does) ≡ false → Stores x frame area area journal journal used used
   stays w = record { wrote = λ e. not-so (sym w ∙ e); stayed = λ _. (refl, refl, refl) }
 
-  pub stored : {k : Kind} {new area′ journal′ : List ℕ} {left : ℕ} (a : Action) → m .does ≡ a → writes a ≡ true → k ≡ kindOf h (m .tag)
-      → new ≡ newBytes a (kindOf h (m .tag) .unit) count follow → Written h k start count new area area′ journal journal′ used left
-      → Stored h m start count follow area area′ journal journal′ used left
-  stored a d w f n x = record { wrote = λ _. rw (d, ← n, ← f) x; stayed = λ e. not-so (sym e ∙ ap writes d ∙ w) }
+  pub stored : {k : Kind} {new area′ journal′ : List ℕ} {left : ℕ} (a : Action) → x .message .does ≡ a → writes a ≡ true → k ≡ kindIn x
+      → new ≡ newBytes a (kindIn x .unit) (x .count) (restIn (x .message) (contentIn frame))
+      → Written (x .held) k (x .start) (x .count) new area area′ journal journal′ used left → Stores x frame area area′ journal journal′ used left
+  stored a d w f n y = record { wrote = λ _. rw (d, ← n, ← f) y; stayed = λ e. not-so (sym e ∙ ap writes d ∙ w) }

@@ -1,27 +1,41 @@
--- What carrying an order out needs, and what it leaves of the area of the message's kind and of the journal.
+-- What carrying an order out needs, and what it leaves of the reply area, of the area of the message's kind and of the journal.
 use Prim.Native.Nat.{ℕ, _≤_}
 use mathlib.Core.Path.{_≡_}
 use mathlib.Core.Bool.{true, false}
 use mathlib.Core.List.{List}
 use lib.ListN.{length}
-use Rattle.kinds.specs.declared.Held.{Held}
+use Rattle.frames.specs.Frame.{contentIn}
+use Rattle.kinds.specs.declared.Kind.{Kind}
 use Rattle.kinds.specs.Kinds.{Sound, kindOf, sizeOf}
-use Rattle.table.specs.declared.Message.{Message}
-use Rattle.messages.specs.declared.Asked.the-variants.{Order}
+use Rattle.table.specs.Table.{restIn}
+use Rattle.messages.specs.declared.Asked.the-variants as asked
 use Rattle.messages.specs.Asked.{askedOf}
+use Rattle.queries.specs.Laws.{Replied}
 use Rattle.writes.specs.Writes.{Written}
-use Rattle.orders.specs.Orders.{writes, newBytes}
+use Rattle.calls.specs.Calls.{Sent}
+use Rattle.orders.specs.declared.Order.{Order}
+use Rattle.orders.specs.Orders.{writes, newBytes, saidBy}
 
--- a frame that orders this of a board that holds so much, with the area of the message's kind; a message that names no kind is handed any area
-pub record Ordered (h : Held) (frame : List ℕ) (m : Message) (start count : ℕ) (area : List ℕ) : Type 0 where
-  pub sound : Sound h
+-- the kind of what an order's message asks of
+abbrev pub kindIn : Order → Kind
+kindIn o = kindOf (o .held) (o .message .tag)
+
+-- a frame that orders this, with the area of the message's kind; a message that asks of no kind is handed any area
+pub record Ordered (o : Order) (frame area : List ℕ) : Type 0 where
+  pub sound : Sound (o .held)
   pub fitted : ℕ
   pub frame-long : 10 ≤ length frame
-  pub order : askedOf h fitted frame ≡ Order m start count
-  pub area-long : 1 ≤ kindOf h (m .tag) .held → length area ≡ sizeOf (kindOf h (m .tag))
+  pub order : askedOf (o .held) fitted frame ≡ asked.Order (o .message) (o .start) (o .count)
+  pub area-long : 1 ≤ kindIn o .held → length area ≡ sizeOf (kindIn o)
 
--- a write puts its bytes into the area and adds its entry; a query leaves area, journal and used length as they were
-pub record Stored (h : Held) (m : Message) (start count : ℕ) (rest area area′ journal journal′ : List ℕ) (used used′ : ℕ) : Type 0 where
-  pub wrote : writes (m .does) ≡ true
-      → Written h (kindOf h (m .tag)) start count (newBytes (m .does) (kindOf h (m .tag) .unit) count rest) area area′ journal journal′ used used′
-  pub stayed : writes (m .does) ≡ false → (area′ ≡ area) × (journal′ ≡ journal) × (used′ ≡ used)
+-- what it says: the reply's length, and every byte of the reply area
+abbrev pub Says : Order → Sent → List ℕ → ℕ → List ℕ → Type 0
+Says o s area long reply′ =
+    Replied (s .reply) reply′ long (s .settings .station) (saidBy (o .message .does) (o .held) s (o .message) (o .start) (o .count) area)
+
+-- what it stores: a write puts its bytes into the area and adds its entry; a query leaves area, journal and used length as they were
+pub record Stores (o : Order) (frame area area′ journal journal′ : List ℕ) (used used′ : ℕ) : Type 0 where
+  pub wrote : writes (o .message .does) ≡ true
+      → Written (o .held) (kindIn o) (o .start) (o .count)
+      (newBytes (o .message .does) (kindIn o .unit) (o .count) (restIn (o .message) (contentIn frame))) area area′ journal journal′ used used′
+  pub stayed : writes (o .message .does) ≡ false → (area′ ≡ area) × (journal′ ≡ journal) × (used′ ≡ used)

@@ -23,11 +23,17 @@ ghost use Prim.Native.Nat.{_≤_};
 ghost use lib.ListN.{length};
 ghost use Rattle.frames.specs.Frame.{contentIn};
 ghost use Rattle.table.specs.Table.{fieldsOf, restIn, Narrow};
-ghost use Rattle.queries.specs.Laws.{Replied};
 ghost use Rattle.calls.specs.Calls.{sentOf};
 ghost use Rattle.refusals.specs.Refusals.{journalFits};
-ghost use Rattle.orders.specs.Orders.{saidBy};
-ghost use Rattle.orders.specs.Contract.{Ordered, Stored};
+ghost use Rattle.orders.specs.Contract.{Ordered, Says, Stores};
+
+// What a frame orders of a board that holds so much: a message, with its start number and count.
+pub struct Order {
+    pub message: Message,
+    pub start: usize,
+    pub count: usize,
+    pub held: Held,
+}
 
 // What an order that was carried out gives: the reply's length, and what is handed on.
 pub struct Done {
@@ -47,20 +53,20 @@ fn rest_of(m: Message, frame: &[u8]) -> &[u8]
 
 // What a message has the board say. The reply's length.
 fn say(
-    m: Message,
-    start: usize,
-    count: usize,
+    order: Order,
     frame: &[u8],
     area: &[u8],
-    held: Held,
     axes: Axes,
     settings: Settings,
     reply: &mut [u8],
 ) -> usize
-    requires { ⌜ Ordered held (now frame) m start count (now area) × (1024 ≤ length (now reply)) ⌝ }
-    ensures { λ r. ⌜ Replied (now (reply .entry)) (now (reply .exit)) r (settings .station)
-        (saidBy (m .does) held (sentOf (now (frame .entry)) axes settings (now (reply .entry))) m start count (now (area .entry))) ⌝ }
+    requires { ⌜ Ordered order (now frame) (now area) × (1024 ≤ length (now reply)) ⌝ }
+    ensures { λ r. ⌜ Says order (sentOf (now (frame .entry)) axes settings (now (reply .entry))) (now (area .entry)) r (now (reply .exit)) ⌝ }
 {
+    let m = order.message;
+    let held = order.held;
+    let start = order.start;
+    let count = order.count;
     let station = settings.station;
     let k = held.kind(m.tag);
     let rest = rest_of(m, frame);
@@ -87,20 +93,14 @@ fn say(
 }
 
 // What a message has the board store, with its entry; a query stores nothing. The new used length.
-fn store(
-    m: Message,
-    start: usize,
-    count: usize,
-    frame: &[u8],
-    area: &mut [u8],
-    journal: &mut [u8],
-    used: usize,
-    held: Held,
-) -> usize
-    requires { ⌜ Ordered held (now frame) m start count (now area) × (journalFits held (now journal) used ≡ true) ⌝ }
-    ensures { λ r. ⌜ Stored held m start count (restIn m (contentIn (now (frame .entry))))
-        (now (area .entry)) (now (area .exit)) (now (journal .entry)) (now (journal .exit)) used r ⌝ }
+fn store(order: Order, frame: &[u8], area: &mut [u8], journal: &mut [u8], used: usize) -> usize
+    requires { ⌜ Ordered order (now frame) (now area) × (journalFits (order .held) (now journal) used ≡ true) ⌝ }
+    ensures { λ r. ⌜ Stores order (now (frame .entry)) (now (area .entry)) (now (area .exit)) (now (journal .entry)) (now (journal .exit)) used r ⌝ }
 {
+    let m = order.message;
+    let held = order.held;
+    let start = order.start;
+    let count = order.count;
     let k = held.kind(m.tag);
     let rest = rest_of(m, frame);
     let does = m.does;
@@ -120,26 +120,22 @@ fn store(
 
 // An order carried out: what the message says, then what it stores.
 pub fn carry_out(
-    m: Message,
-    start: usize,
-    count: usize,
+    order: Order,
     frame: &[u8],
     area: &mut [u8],
     journal: &mut [u8],
     kept: Kept,
-    held: Held,
     axes: Axes,
     settings: Settings,
     reply: &mut [u8],
 ) -> Done
-    requires { ⌜ Ordered held (now frame) m start count (now area) × (1024 ≤ length (now reply)) × (journalFits held (now journal) (kept .used) ≡ true) ⌝ }
-    ensures { λ r. ⌜ Replied (now (reply .entry)) (now (reply .exit)) (r .length) (settings .station)
-        (saidBy (m .does) held (sentOf (now (frame .entry)) axes settings (now (reply .entry))) m start count (now (area .entry))) ⌝ }
-    ensures { λ r. ⌜ Stored held m start count (restIn m (contentIn (now (frame .entry))))
-        (now (area .entry)) (now (area .exit)) (now (journal .entry)) (now (journal .exit)) (kept .used) (r .kept .used) ⌝ }
+    requires { ⌜ Ordered order (now frame) (now area) × (1024 ≤ length (now reply)) × (journalFits (order .held) (now journal) (kept .used) ≡ true) ⌝ }
+    ensures { λ r. ⌜ Says order (sentOf (now (frame .entry)) axes settings (now (reply .entry))) (now (area .entry)) (r .length) (now (reply .exit)) ⌝ }
+    ensures { λ r. ⌜ Stores order (now (frame .entry)) (now (area .entry)) (now (area .exit))
+        (now (journal .entry)) (now (journal .exit)) (kept .used) (r .kept .used) ⌝ }
 {
-    let length = say(m, start, count, frame, area, held, axes, settings, reply);
-    let used = store(m, start, count, frame, area, journal, kept.used, held);
+    let length = say(order, frame, area, axes, settings, reply);
+    let used = store(order, frame, area, journal, kept.used);
     Done {
         length,
         kept: Kept { used },

@@ -49,7 +49,7 @@ enum-known-asked-2 c = search needs
 
 perform-requires : tie.Need-perform-requires
 perform-requires c κs = let g = c .before .before .before .before .before .before .before .before .before .before .before in
-    (record { silent-0 = heard g; order = same-asked _ _ (sym (c .before .before .before .before .before .before .before .asked2 .given .1) ∙ c .before .before .before .before .before .before .before .before .before .judge .ensures) (c .before .before .before .before .before .before .before .before .before .before .held-in .ensures) }, c .before .before .before .before .before .before .before .before .before .before .held-in .ensures)
+    record { silent-0 = heard g; held-is = c .before .before .before .before .before .before .before .before .before .before .held-in .ensures; order = same-asked _ _ (sym (c .before .before .before .before .before .before .before .asked2 .given .1) ∙ c .before .before .before .before .before .before .before .before .before .judge .ensures) (c .before .before .before .before .before .before .before .before .before .before .held-in .ensures) }
 
 accept-requires : tie.Need-accept-requires
 accept-requires c κs = search needs

@@ -17,7 +17,7 @@ use Rattle.orders.proofs.say.Tie as tie
 
 -- the function's entry, from where what follows the fields is at hand; what was sent
 abbrev start : tie.After-rest-of → tie.Start
-start r = r .before .before .before .before .before
+start r = r .before .before .before .before .before .before .before
 
 abbrev sent : tie.After-rest-of → Sent
 sent r = let s = start r in sentOf (s .args .frame .now) (s .args .axes) (s .args .settings) (s .args .reply .now)
@@ -26,7 +26,7 @@ kind-requires : tie.Need-kind-requires
 kind-requires c κs = search needs
 
 rest-of-requires : tie.Need-rest-of-requires
-rest-of-requires c κs = handling.rest-needs (c .before .before .before .before .pre .0)
+rest-of-requires c κs = handling.rest-needs (c .before .before .before .before .before .before .pre .0)
 
 enum-told : tie.Need-enum-told
 enum-told c = search needs
@@ -115,7 +115,7 @@ same-length : tie.Need-same-length
 same-length c = search needs
 
 returns : tie.Need-returns
-returns c = let r = c .before .before .before .before .before .before in handling.says (start r .pre .0) (sent r) SayBack (c .before .before .before .before .enum-told .given .1) (ap (sameText (start r .args .m)) (r .rest-of .ensures)) (c .before .before .reply-same .ensures)
+returns c = let r = c .before .before .before .before .before .before in handling.says (start r .pre .0) (sent r) SayBack (c .before .before .before .before .enum-told .given .1) (ap (sameText (start r .args .order .message)) (r .rest-of .ensures)) (c .before .before .reply-same .ensures)
 
 same-length-2 : tie.Need-same-length-2
 same-length-2 c = search needs
@@ -130,20 +130,20 @@ returns-3 : tie.Need-returns-3
 returns-3 c = let r = c .before .before .before .before .before .before .before .before in let d = c .before .before .before .before .before .before .enum-told3 .given .1 in
     let s = start r .args in
     let a = handling.list-at (start r .pre .0) d (r .before .kind .ensures) (c .before .before .before .before .before .place .ensures) in
-    handling.says (start r .pre .0) (sent r) ListPoints d (ap (listText (s .m) (s .start) (s .count)) (part-rest (s .area .now) _ ∙ ap (λ (x : ℕ). drop x (s .area .now)) a)) (c .before .before .reply-list .ensures)
+    handling.says (start r .pre .0) (sent r) ListPoints d (ap (listText (s .order .message) (s .order .start) (s .order .count)) (part-rest (s .area .now) _ ∙ ap (λ (x : ℕ). drop x (s .area .now)) a)) (c .before .before .reply-list .ensures)
 
 same-length-4 : tie.Need-same-length-4
 same-length-4 c = search needs
 
 returns-4 : tie.Need-returns-4
-returns-4 c = let r = c .before .before .before .before .before .before in let s = start r .args in handling.says (start r .pre .0) (sent r) ReadRun (c .before .before .before .before .enum-told4 .given .1) (ap (λ (k : Kind). runText (s .m) k (s .start) (s .count) (s .area .now)) (r .before .kind .ensures)) (c .before .before .reply-run .ensures)
+returns-4 c = let r = c .before .before .before .before .before .before in let s = start r .args in handling.says (start r .pre .0) (sent r) ReadRun (c .before .before .before .before .enum-told4 .given .1) (ap (λ (k : Kind). runText (s .order .message) k (s .order .start) (s .order .count) (s .area .now)) (r .before .kind .ensures)) (c .before .before .reply-run .ensures)
 
 same-length-5 : tie.Need-same-length-5
 same-length-5 c = search needs
 
 returns-5 : tie.Need-returns-5
 returns-5 c = let r = c .before .before .before .before .before .before .before .before .before in let s = start r .args in
-    handling.says (start r .pre .0) (sent r) AxisStatus (c .before .before .before .before .before .before .before .enum-told5 .given .1) (ap (λ (n : ℕ). axesText (s .m) (bitAnd n (s .settings .fitted)) (s .axes .records)) (c .before .before .before .before .before .before .number .ensures ∙ ap numberOf (r .rest-of .ensures))) (c .before .before .reply-axes .ensures)
+    handling.says (start r .pre .0) (sent r) AxisStatus (c .before .before .before .before .before .before .before .enum-told5 .given .1) (ap (λ (n : ℕ). axesText (s .order .message) (bitAnd n (s .settings .fitted)) (s .axes .records)) (c .before .before .before .before .before .before .number .ensures ∙ ap numberOf (r .rest-of .ensures))) (c .before .before .reply-axes .ensures)
 
 same-length-6 : tie.Need-same-length-6
 same-length-6 c = search needs
@@ -167,7 +167,7 @@ same-length-9 : tie.Need-same-length-9
 same-length-9 c = search needs
 
 returns-9 : tie.Need-returns-9
-returns-9 c = let r = c .before .before .before .before .before .before in let s = start r .args in handling.says (start r .pre .0) (sent r) ShowFlags (c .before .before .before .before .enum-told9 .given .1) (ap (λ (k : Kind). flagsText (s .m) k (s .start) (s .count) (s .area .now)) (r .before .kind .ensures)) (c .before .before .reply-flags .ensures)
+returns-9 c = let r = c .before .before .before .before .before .before in let s = start r .args in handling.says (start r .pre .0) (sent r) ShowFlags (c .before .before .before .before .enum-told9 .given .1) (ap (λ (k : Kind). flagsText (s .order .message) k (s .order .start) (s .order .count) (s .area .now)) (r .before .kind .ensures)) (c .before .before .reply-flags .ensures)
 
 same-length-10 : tie.Need-same-length-10
 same-length-10 c = search needs

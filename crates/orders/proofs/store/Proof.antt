@@ -8,13 +8,13 @@ use Rattle.orders.proofs.store.Tie as tie
 
 -- the function's entry, from where what follows the fields is at hand
 abbrev start : tie.After-rest-of → tie.Start
-start r = r .before .before .before .before .before
+start r = r .before .before .before .before .before .before .before
 
 kind-requires : tie.Need-kind-requires
 kind-requires c κs = search needs
 
 rest-of-requires : tie.Need-rest-of-requires
-rest-of-requires c κs = handling.rest-needs (c .before .before .before .before .pre .0)
+rest-of-requires c κs = handling.rest-needs (c .before .before .before .before .before .before .pre .0)
 
 enum-told : tie.Need-enum-told
 enum-told c = search needs
