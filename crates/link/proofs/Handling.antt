@@ -26,7 +26,8 @@ use Rattle.table.specs.declared.Message.{Message}
 use Rattle.messages.specs.declared.Asked.the-variants.{Order}
 use Rattle.table.specs.Table.{fieldsOf, followsRight, Narrow}
 use Rattle.messages.proofs.Shapes.{Shape}
-use Rattle.queries.specs.Replies.{sameText, countText, listText, runText, flagsText, axesText, headOf}
+use Rattle.heads.specs.Heads.{runText, flagsText, headOf}
+use Rattle.queries.specs.Replies.{sameText, countText, listText, axesText}
 use Rattle.writes.specs.Writes.{Ready, Written}
 use Rattle.calls.specs.declared.Kept.{Kept}
 use Rattle.calls.specs.Calls.{Call, areasOf, areaIn, written}

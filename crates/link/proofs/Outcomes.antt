@@ -21,7 +21,7 @@ use Rattle.table.specs.declared.Message.{Message}
 use Rattle.messages.specs.declared.Asked.{Asked}
 use Rattle.messages.specs.declared.Asked.the-variants.{Refused, Order}
 use Rattle.messages.specs.Asked.{numberGiven}
-use Rattle.queries.specs.Laws.{Replied}
+use Rattle.heads.specs.Laws.{Replied}
 use Rattle.writes.specs.Writes.{Ready, Written}
 use Rattle.calls.specs.declared.Kept.{Kept}
 use Rattle.calls.specs.Calls.{Areas, Call, Outcome, areasOf, areaIn, written}

@@ -18,7 +18,8 @@ use Rattle.messages.specs.declared.Asked.{Asked}
 use Rattle.messages.specs.declared.Asked.the-variants.{Refused, Order}
 use Rattle.table.specs.Table.{restIn}
 use Rattle.messages.specs.Asked.{askedOf, numberGiven}
-use Rattle.queries.specs.Replies.{headOf, sameText, countText, listText, runText, flagsText, axesText}
+use Rattle.heads.specs.Heads.{headOf, runText, flagsText}
+use Rattle.queries.specs.Replies.{sameText, countText, listText, axesText}
 use Rattle.calls.specs.Calls.{Areas, Call, Outcome, lengthsOf, areaIn, written, steppedBack}
 use Rattle.refusals.specs.Refusals.{silentOf, backRefusalOf}
 

@@ -5,7 +5,7 @@ use native.Mathlib.Omega.{arith}
 use lib.ListN.{length, take, drop}
 use Rattle.kinds.specs.declared.Held.{Held}
 use Rattle.kinds.specs.Kinds.{kindOf}
-use Rattle.queries.specs.Laws.{Replied}
+use Rattle.heads.specs.Laws.{Replied}
 use Rattle.table.specs.declared.Message.{Message}
 use Rattle.table.specs.Table.{fieldsOf}
 use Rattle.calls.specs.Calls.{Call, callOf, areasOf}

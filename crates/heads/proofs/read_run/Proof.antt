@@ -1,7 +1,7 @@
 use borrow.Author.Tests.{eq-eqb, ne-eqb}
 use borrow.Author.Needs.{needs}
-use Rattle.queries.proofs.read_run.Statement.{statement}
-use Rattle.queries.proofs.read_run.Tie as tie
+use Rattle.heads.proofs.read_run.Statement.{statement}
+use Rattle.heads.proofs.read_run.Tie as tie
 
 reply-run-requires : tie.Need-reply-run-requires
 reply-run-requires c κs = let p = c .before .before .before .before .before .before .pre in (p .0, rw (eq-eqb _ _ (c .before .if1 .taken)) at (p .1))
