@@ -24,7 +24,7 @@ use Rattle.table.specs.declared.Action.the-variants.{ReadRun, ChangeRun}
 use Rattle.table.specs.declared.Message.{Message}
 use Rattle.table.specs.declared.Named.the-variants.{Known}
 use Rattle.table.specs.Table.{row, fieldsOf, startIn, countIn}
-use Rattle.queries.specs.Replies.{headOf, runText}
+use Rattle.heads.specs.Heads.{headOf, runText}
 use Rattle.calls.specs.Calls.{Areas, Sent, sentOf, lengthsOf, areaIn}
 use Rattle.messages.proofs.Judged.{Right}
 use Rattle.refusals.proofs.Tested.{sound}

@@ -22,8 +22,10 @@ use Rattle.table.specs.Table.{Narrow}
 use Rattle.messages.specs.declared.Asked.{Asked}
 use Rattle.messages.specs.declared.Asked.the-variants.{Refused, Order}
 use Rattle.listing.specs.Listing.{listing, listed, joined}
-use Rattle.queries.specs.Replies.{headOf, listText, runText, flagsText}
-use Rattle.queries.proofs.Texts.{head-repeating, head-alone, length-run, length-flags, length-list, length-axes}
+use Rattle.heads.specs.Heads.{headOf, runText, flagsText}
+use Rattle.queries.specs.Replies.{listText}
+use Rattle.heads.proofs.Texts.{head-repeating, head-alone, length-run, length-flags}
+use Rattle.queries.proofs.Texts.{length-list, length-axes}
 use Rattle.calls.specs.Calls.{Call, Outcome, areaIn}
 use Rattle.refusals.specs.Refusals.{silentOf}
 use Rattle.orders.specs.Orders.{rest, saidBy}

@@ -26,7 +26,7 @@ use Rattle.table.specs.declared.Action.the-variants.{SayBack, CountPoints, List
 use Rattle.table.specs.declared.Message.{Message}
 use Rattle.table.specs.Table.{fieldsOf, restIn, followsRight, anyBytes, Narrow}
 use Rattle.messages.proofs.Shapes.{Shape}
-use Rattle.queries.specs.Laws.{Replied}
+use Rattle.heads.specs.Laws.{Replied}
 use Rattle.writes.specs.Writes.{Ready, Written}
 use Rattle.calls.specs.Calls.{Sent}
 use Rattle.refusals.specs.Refusals.{journalFits}

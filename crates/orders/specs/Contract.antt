@@ -10,7 +10,7 @@ use Rattle.kinds.specs.Kinds.{Sound, kindOf, sizeOf}
 use Rattle.table.specs.Table.{restIn}
 use Rattle.messages.specs.declared.Asked.the-variants as asked
 use Rattle.messages.specs.Asked.{askedOf}
-use Rattle.queries.specs.Laws.{Replied}
+use Rattle.heads.specs.Laws.{Replied}
 use Rattle.writes.specs.Writes.{Written}
 use Rattle.calls.specs.Calls.{Sent}
 use Rattle.orders.specs.declared.Order.{Order}

@@ -14,7 +14,8 @@ use Rattle.table.specs.declared.Action.{Action}
 use Rattle.table.specs.declared.Action.the-variants.{SayBack, CountPoints, ListPoints, ReadRun, AxisStatus, WritePoints, ClearRun, ChangeRun, ShowFlags, SetFlag}
 use Rattle.table.specs.declared.Message.{Message}
 use Rattle.table.specs.Table.{restIn}
-use Rattle.queries.specs.Replies.{headOf, sameText, countText, listText, runText, flagsText, axesText}
+use Rattle.heads.specs.Heads.{headOf, runText, flagsText}
+use Rattle.queries.specs.Replies.{sameText, countText, listText, axesText}
 use Rattle.calls.specs.Calls.{Sent}
 
 -- what follows the fields of the content that was sent

@@ -8,7 +8,8 @@ use Rattle.digits.specs.Digits.{numberOf}
 use Rattle.digits.proofs.Laid.{part-rest}
 use Rattle.kinds.specs.declared.Kind.{Kind}
 use Rattle.table.specs.declared.Action.the-variants.{SayBack, CountPoints, ListPoints, ReadRun, AxisStatus, WritePoints, ClearRun, ChangeRun, ShowFlags, SetFlag}
-use Rattle.queries.specs.Replies.{sameText, listText, runText, flagsText, axesText}
+use Rattle.heads.specs.Heads.{runText, flagsText}
+use Rattle.queries.specs.Replies.{sameText, listText, axesText}
 use Rattle.calls.specs.Calls.{Sent, sentOf}
 use Rattle.orders.proofs.Handling as handling
 use borrow.Author.Needs.{needs}

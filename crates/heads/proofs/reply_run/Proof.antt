@@ -2,11 +2,11 @@ use Prim.Native.Nat.{_+_, _-_, _*_}
 use mathlib.Core.Path.{refl}
 use native.Mathlib.Omega.{arith}
 use Rattle.pairs.specs.Pairs.{digitsIn}
-use Rattle.queries.specs.Replies.{runText}
-use Rattle.queries.proofs.Texts.{replied, run-laid, length-run}
+use Rattle.heads.specs.Heads.{runText}
+use Rattle.heads.proofs.Texts.{replied, run-laid, length-run}
 use borrow.Author.Needs.{needs}
-use Rattle.queries.proofs.reply_run.Statement.{statement}
-use Rattle.queries.proofs.reply_run.Tie as tie
+use Rattle.heads.proofs.reply_run.Statement.{statement}
+use Rattle.heads.proofs.reply_run.Tie as tie
 
 put-head-requires : tie.Need-put-head-requires
 put-head-requires c κs = search needs

@@ -1,10 +1,10 @@
 use Prim.Native.Nat.{_-_}
 use native.Mathlib.Omega.{arith}
-use Rattle.queries.specs.Replies.{headOf}
-use Rattle.queries.proofs.Texts.{replied}
+use Rattle.heads.specs.Heads.{headOf}
+use Rattle.heads.proofs.Texts.{replied}
 use borrow.Author.Needs.{needs}
-use Rattle.queries.proofs.reply_head.Statement.{statement}
-use Rattle.queries.proofs.reply_head.Tie as tie
+use Rattle.heads.proofs.reply_head.Statement.{statement}
+use Rattle.heads.proofs.reply_head.Tie as tie
 
 put-head-requires : tie.Need-put-head-requires
 put-head-requires c κs = search needs

@@ -1,8 +1,8 @@
 use native.Mathlib.Omega.{arith}
-use Rattle.queries.proofs.Texts.{fields-laid}
+use Rattle.heads.proofs.Texts.{fields-laid}
 use borrow.Author.Needs.{needs}
-use Rattle.queries.proofs.put_fields.Statement.{statement}
-use Rattle.queries.proofs.put_fields.Tie as tie
+use Rattle.heads.proofs.put_fields.Statement.{statement}
+use Rattle.heads.proofs.put_fields.Tie as tie
 
 put-number-requires : tie.Need-put-number-requires
 put-number-requires c κs = search needs

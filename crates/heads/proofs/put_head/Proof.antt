@@ -1,8 +1,8 @@
 use native.Mathlib.Omega.{arith}
-use Rattle.queries.proofs.Texts.{head-repeating, head-alone}
+use Rattle.heads.proofs.Texts.{head-repeating, head-alone}
 use borrow.Author.Needs.{needs}
-use Rattle.queries.proofs.put_head.Statement.{statement}
-use Rattle.queries.proofs.put_head.Tie as tie
+use Rattle.heads.proofs.put_head.Statement.{statement}
+use Rattle.heads.proofs.put_head.Tie as tie
 
 cast-put-number : tie.Need-cast-put-number
 cast-put-number c = search needs

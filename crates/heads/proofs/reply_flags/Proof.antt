@@ -6,11 +6,11 @@ use lib.ListN.{take, drop, length-take, length-drop}
 use Rattle.pairs.specs.Pairs.{digitsIn}
 use Rattle.flags.specs.Flags.{eights}
 use Rattle.flags.proofs.Promised.{shown}
-use Rattle.queries.specs.Replies.{flagsText}
-use Rattle.queries.proofs.Texts.{replied, run-laid, length-flags}
+use Rattle.heads.specs.Heads.{flagsText}
+use Rattle.heads.proofs.Texts.{replied, run-laid, length-flags}
 use borrow.Author.Needs.{needs}
-use Rattle.queries.proofs.reply_flags.Statement.{statement}
-use Rattle.queries.proofs.reply_flags.Tie as tie
+use Rattle.heads.proofs.reply_flags.Statement.{statement}
+use Rattle.heads.proofs.reply_flags.Tie as tie
 
 put-head-requires : tie.Need-put-head-requires
 put-head-requires c κs = search needs
