@@ -109,64 +109,51 @@ module _ (a : Areas) (h : Held) (tag start count : ℕ) (new area′ journal′ 
       (w .journalled .bytes ∙ ap (λ (t : ℕ). areaOf (length (a .journal)) (added (length (a .journal)) (entriesIn h 0 (take (a .kept .used) (a .journal))) (entryFor t start (runOf (kindOf h tag) start count (areaIn tag a))))) (tag-of h tag))
       (w .journalled .used ∙ ap (λ (t : ℕ). length (encodes (added (length (a .journal)) (entriesIn h 0 (take (a .kept .used) (a .journal))) (entryFor t start (runOf (kindOf h tag) start count (areaIn tag a)))))) (tag-of h tag))
 
--- one of the areas, and the areas with another in its place: where anything of a tag's kind is held, it is that kind's
-pub record Own (a : Areas) (h : Held) (tag : ℕ) (area : List ℕ) (with-it : List ℕ → List ℕ → Kept → Areas) : Type 0 where
-  pub whole : with-it area (a .journal) (a .kept) ≡ a
-  pub kept-is : (x j : List ℕ) (k : Kept) → with-it x j k .kept ≡ k
-  pub area-is : 1 ≤ kindOf h tag .held → area ≡ areaIn tag a
-  pub put-is : 1 ≤ kindOf h tag .held → (x j : List ℕ) (k : Kept) → with-it x j k ≡ replacing tag x a j k
-
-module _ (a : Areas) (h : Held) {tag : ℕ} where
-  pub own-points : (1 ≤ kindOf h tag .held → tag ≡ pointsTag) → Own a h tag (a .points) (λ x j k. areasOf x (a .columns) (a .integers) (a .flags) j k (a .firsts))
-  own-points t = record { whole = refl; kept-is = λ x j k. refl; area-is = λ z. rw (t z); put-is = λ z x j k. rw (t z) }
-
-  pub own-columns : (1 ≤ kindOf h tag .held → tag ≡ columnsTag) → Own a h tag (a .columns) (λ x j k. areasOf (a .points) x (a .integers) (a .flags) j k (a .firsts))
-  own-columns t = record { whole = refl; kept-is = λ x j k. refl; area-is = λ z. rw (t z); put-is = λ z x j k. rw (t z) }
-
-  pub own-integers : (1 ≤ kindOf h tag .held → tag ≡ integersTag) → Own a h tag (a .integers) (λ x j k. areasOf (a .points) (a .columns) x (a .flags) j k (a .firsts))
-  own-integers t = record { whole = refl; kept-is = λ x j k. refl; area-is = λ z. rw (t z); put-is = λ z x j k. rw (t z) }
-
-  pub own-flags : (1 ≤ kindOf h tag .held → tag ≡ flagsTag) → Own a h tag (a .flags) (λ x j k. areasOf (a .points) (a .columns) (a .integers) x j k (a .firsts))
-  own-flags t = record { whole = refl; kept-is = λ x j k. refl; area-is = λ z. rw (t z); put-is = λ z x j k. rw (t z) }
-
 -- of a tag that none of the others is, flags are held or nothing
 pub last-kind : (h : Held) (tag : ℕ) → (tag ≡ pointsTag → ⊥) → (tag ≡ columnsTag → ⊥) → (tag ≡ integersTag → ⊥) → 1 ≤ kindOf h tag .held → tag ≡ flagsTag
 last-kind h tag p c n =
     each-kind (λ (k : Kind). 1 ≤ k .held → tag ≡ flagsTag) h tag (λ e _. absurd (p e)) (λ e _. absurd (c e)) (λ e _. absurd (n e)) (λ e _. e)
     (λ z. absurd (omega arith))
 
--- an order, carried out with one of the areas
-module _ {c : Call} {o : Order} (e : Heard c o) {area : List ℕ} {with-it : List ℕ → List ℕ → Kept → Areas} (w : Own (c .areas) (held c) (o .message .tag) area with-it) where
+-- an order, carried out in the area of a tag, which is its message's where anything of that kind is held
+module _ {c : Call} {o : Order} (e : Heard c o) (tag : ℕ) (whole : replacing tag (areaIn tag (c .areas)) (c .areas) (c .areas .journal) (c .areas .kept) ≡ c .areas)
+    (w : 1 ≤ kindOf (held c) (o .message .tag) .held → o .message .tag ≡ tag) where
   board : Fine c
   board = fine c (e .silent-0)
 
-  can : Ordered o (c .sent .frame) area
-  can = ordered c o e (w .area-is)
+  of-kind : 1 ≤ kindOf (held c) (o .message .tag) .held → areaIn tag (c .areas) ≡ areaIn (o .message .tag) (c .areas)
+  of-kind z = ap (λ (t : ℕ). areaIn t (c .areas)) (sym (w z))
 
-  pub can-carry : Ordered o (c .sent .frame) area × (1024 ≤ length (c .sent .reply)) × (journalFits (o .held) (c .areas .journal) (c .areas .kept .used) ≡ true)
+  can : Ordered o (c .sent .frame) (areaIn tag (c .areas))
+  can = ordered c o e of-kind
+
+  pub can-carry : Ordered o (c .sent .frame) (areaIn tag (c .areas)) × (1024 ≤ length (c .sent .reply))
+      × (journalFits (o .held) (c .areas .journal) (c .areas .kept .used) ≡ true)
   can-carry = (can, board .reply-long, rw (e .held-is) (board .areas .journal-fits))
 
-  module _ {r : Done} {area′ journal′ reply′ : List ℕ} (p : Says o (c .sent) area (r .length) reply′)
-      (s : Stores o (c .sent .frame) area area′ (c .areas .journal) journal′ (c .areas .kept .used) (r .kept .used)) where
-    abbrev does : Held → List ℕ → List ℕ
-    does h own = saidBy (o .message .does) h (c .sent) (o .message) (o .start) (o .count) own
+  module _ {r : Done} {area′ journal′ reply′ : List ℕ} (p : Says o (c .sent) (areaIn tag (c .areas)) (r .length) reply′)
+      (s : Stores o (c .sent .frame) (areaIn tag (c .areas)) area′ (c .areas .journal) journal′ (c .areas .kept .used) (r .kept .used)) where
+    abbrev saying : Held → List ℕ → List ℕ
+    saying h area = saidBy (o .message .does) h (c .sent) (o .message) (o .start) (o .count) area
 
-    said : does (o .held) area ≡ does (held c) (areaIn (o .message .tag) (c .areas))
-    said = ap (λ (h : Held). does h area) (e .held-is) ∙ rw (e .held-is) at (said-same can {own = areaIn (o .message .tag) (c .areas)} (c .sent) (rw (e .held-is) (w .area-is)))
+    said : saying (o .held) (areaIn tag (c .areas)) ≡ saying (held c) (areaIn (o .message .tag) (c .areas))
+    said =
+        ap (λ (h : Held). saying h (areaIn tag (c .areas))) (e .held-is)
+        ∙ rw (e .held-is) at (said-same can {own = areaIn (o .message .tag) (c .areas)} (c .sent) (rw (e .held-is) of-kind))
 
     left : (b : Bool) → writes (o .message .does) ≡ b
-        → with-it area′ journal′ (r .kept)
+        → replacing tag area′ (c .areas) journal′ (r .kept)
         ≡ cond b (written (held c) (o .message .tag) (o .start) (o .count) (newBytes (o .message .does) (kindOf (held c) (o .message .tag) .unit) (o .count) (rest (c .sent) (o .message))) (c .areas)) (c .areas)
     left true f =
         let n = writable (o .held) (contentIn (c .sent .frame)) (o .message) (o .start) (o .count) (content can) f .run in
         let z : 1 ≤ kindOf (held c) (o .message .tag) .held = rw (sym (e .held-is)) (omega (arith, few (kindIn o) (o .start) (o .count) (n .held-all), n .some)) in
-        w .put-is z area′ journal′ (r .kept)
-        ∙ written-so (c .areas) (held c) (o .message .tag) (o .start) (o .count) _ area′ journal′ (r .kept) (rw (e .held-is, w .area-is z) at (s .wrote f))
-    left false f = let q = s .stayed f in (λ i. with-it (q .0 i) (q .1 i) (record { used = q .2 i })) ∙ w .whole
+        ap (λ (t : ℕ). replacing t area′ (c .areas) journal′ (r .kept)) (sym (w z))
+        ∙ written-so (c .areas) (held c) (o .message .tag) (o .start) (o .count) _ area′ journal′ (r .kept) (rw (e .held-is, of-kind z) at (s .wrote f))
+    left false f = let q = s .stayed f in (λ i. replacing tag (q .0 i) (c .areas) (q .1 i) (record { used = q .2 i })) ∙ whole
 
-    pub performed : Answers c (accepted r) (with-it area′ journal′ (r .kept)) reply′
+    pub performed : Answers c (accepted r) (replacing tag area′ (c .areas) journal′ (r .kept)) reply′
     performed =
-        answers-by c _ (accepted r) (with-it area′ journal′ (r .kept)) reply′ (sym (w .kept-is area′ journal′ (r .kept)))
+        answers-by c _ (accepted r) (replacing tag area′ (c .areas) journal′ (r .kept)) reply′ refl
         (asked-so c (asks.Order (o .message) (o .start) (o .count)) (e .silent-0) (e .order))
         refl
         (p .length-is ∙ ap (λ (x : List ℕ). length (replyOf normal (c .sent .settings .station) x)) said)

@@ -1,8 +1,8 @@
-use mathlib.Core.Path.{_≡_}
-use mathlib.Core.List.{List}
+use mathlib.Core.Path.{_≡_, refl}
+use Rattle.kinds.specs.Kinds.{pointsTag, columnsTag, integersTag, flagsTag}
 use Rattle.calls.specs.Calls.{Call, callOf, areasOf}
 use Rattle.link.specs.Answer.{held}
-use Rattle.link.proofs.Outcomes.{own-points, own-columns, own-integers, own-flags, last-kind, can-carry, performed}
+use Rattle.link.proofs.Outcomes.{last-kind, can-carry, performed}
 use borrow.Author.Needs.{needs}
 use Rattle.link.proofs.perform.Statement.{statement}
 use Rattle.link.proofs.perform.Tie as tie
@@ -14,7 +14,7 @@ call s =
     (areasOf (s .args .points .now) (s .args .columns .now) (s .args .integers .now) (s .args .flags .now) (s .args .journal .now) (s .args .kept) (s .args .firsts))
 
 carry-out-requires : tie.Need-carry-out-requires
-carry-out-requires c κs = let s = c .before .before .before .before .before .before .before .before .before .before .before .before in can-carry (s .pre) (own-points (call s .areas) (held (call s)) (λ _. c .before .before .before .if1 .taken))
+carry-out-requires c κs = can-carry (c .before .before .before .before .before .before .before .before .before .before .before .before .pre) pointsTag refl (λ _. c .before .before .before .if1 .taken)
 
 same-length : tie.Need-same-length
 same-length c = search needs
@@ -26,10 +26,10 @@ same-length-3 : tie.Need-same-length-3
 same-length-3 c = search needs
 
 returns : tie.Need-returns
-returns c = let s = c .before .before .before .before .before .before .before .before .before .before .before .before .before .before .before .before .before .before .before in performed (s .pre) (own-points (call s .areas) (held (call s)) (λ _. c .before .before .before .before .before .before .before .before .before .before .if1 .taken)) (c .before .before .before .before .before .before .carry-out .ensures .0) (c .before .before .before .before .before .before .carry-out .ensures .1)
+returns c = performed (c .before .before .before .before .before .before .before .before .before .before .before .before .before .before .before .before .before .before .before .pre) pointsTag refl (λ _. c .before .before .before .before .before .before .before .before .before .before .if1 .taken) (c .before .before .before .before .before .before .carry-out .ensures .0) (c .before .before .before .before .before .before .carry-out .ensures .1)
 
 carry-out-requires-2 : tie.Need-carry-out-requires-2
-carry-out-requires-2 c κs = let s = c .before .before .before .before .before .before .before .before .before .before .before .before .before in can-carry (s .pre) (own-columns (call s .areas) (held (call s)) (λ _. c .before .before .before .if2 .taken))
+carry-out-requires-2 c κs = can-carry (c .before .before .before .before .before .before .before .before .before .before .before .before .before .pre) columnsTag refl (λ _. c .before .before .before .if2 .taken)
 
 same-length-4 : tie.Need-same-length-4
 same-length-4 c = search needs
@@ -41,10 +41,10 @@ same-length-6 : tie.Need-same-length-6
 same-length-6 c = search needs
 
 returns-2 : tie.Need-returns-2
-returns-2 c = let s = c .before .before .before .before .before .before .before .before .before .before .before .before .before .before .before .before .before .before .before .before in performed (s .pre) (own-columns (call s .areas) (held (call s)) (λ _. c .before .before .before .before .before .before .before .before .before .before .if2 .taken)) (c .before .before .before .before .before .before .carry-out2 .ensures .0) (c .before .before .before .before .before .before .carry-out2 .ensures .1)
+returns-2 c = performed (c .before .before .before .before .before .before .before .before .before .before .before .before .before .before .before .before .before .before .before .before .pre) columnsTag refl (λ _. c .before .before .before .before .before .before .before .before .before .before .if2 .taken) (c .before .before .before .before .before .before .carry-out2 .ensures .0) (c .before .before .before .before .before .before .carry-out2 .ensures .1)
 
 carry-out-requires-3 : tie.Need-carry-out-requires-3
-carry-out-requires-3 c κs = let s = c .before .before .before .before .before .before .before .before .before .before .before .before .before .before in can-carry (s .pre) (own-integers (call s .areas) (held (call s)) (λ _. c .before .before .before .if3 .taken))
+carry-out-requires-3 c κs = can-carry (c .before .before .before .before .before .before .before .before .before .before .before .before .before .before .pre) integersTag refl (λ _. c .before .before .before .if3 .taken)
 
 same-length-7 : tie.Need-same-length-7
 same-length-7 c = search needs
@@ -56,10 +56,10 @@ same-length-9 : tie.Need-same-length-9
 same-length-9 c = search needs
 
 returns-3 : tie.Need-returns-3
-returns-3 c = let s = c .before .before .before .before .before .before .before .before .before .before .before .before .before .before .before .before .before .before .before .before .before in performed (s .pre) (own-integers (call s .areas) (held (call s)) (λ _. c .before .before .before .before .before .before .before .before .before .before .if3 .taken)) (c .before .before .before .before .before .before .carry-out3 .ensures .0) (c .before .before .before .before .before .before .carry-out3 .ensures .1)
+returns-3 c = performed (c .before .before .before .before .before .before .before .before .before .before .before .before .before .before .before .before .before .before .before .before .before .pre) integersTag refl (λ _. c .before .before .before .before .before .before .before .before .before .before .if3 .taken) (c .before .before .before .before .before .before .carry-out3 .ensures .0) (c .before .before .before .before .before .before .carry-out3 .ensures .1)
 
 carry-out-requires-4 : tie.Need-carry-out-requires-4
-carry-out-requires-4 c κs = let s = c .before .before .before .before .before .before .before .before .before .before .before .before .before .before in can-carry (s .pre) (own-flags (call s .areas) (held (call s)) (last-kind (held (call s)) _ (c .before .before .before .before .before .if1 .left) (c .before .before .before .before .if2 .left) (c .before .before .before .if3 .left)))
+carry-out-requires-4 c κs = can-carry (c .before .before .before .before .before .before .before .before .before .before .before .before .before .before .pre) flagsTag refl (last-kind (held (call (c .before .before .before .before .before .before .before .before .before .before .before .before .before .before))) _ (c .before .before .before .before .before .if1 .left) (c .before .before .before .before .if2 .left) (c .before .before .before .if3 .left))
 
 same-length-10 : tie.Need-same-length-10
 same-length-10 c = search needs
@@ -71,7 +71,7 @@ same-length-12 : tie.Need-same-length-12
 same-length-12 c = search needs
 
 returns-4 : tie.Need-returns-4
-returns-4 c = let s = c .before .before .before .before .before .before .before .before .before .before .before .before .before .before .before .before .before .before .before .before .before in performed (s .pre) (own-flags (call s .areas) (held (call s)) (last-kind (held (call s)) _ (c .before .before .before .before .before .before .before .before .before .before .before .before .if1 .left) (c .before .before .before .before .before .before .before .before .before .before .before .if2 .left) (c .before .before .before .before .before .before .before .before .before .before .if3 .left))) (c .before .before .before .before .before .before .carry-out4 .ensures .0) (c .before .before .before .before .before .before .carry-out4 .ensures .1)
+returns-4 c = performed (c .before .before .before .before .before .before .before .before .before .before .before .before .before .before .before .before .before .before .before .before .before .pre) flagsTag refl (last-kind (held (call (c .before .before .before .before .before .before .before .before .before .before .before .before .before .before .before .before .before .before .before .before .before))) _ (c .before .before .before .before .before .before .before .before .before .before .before .before .if1 .left) (c .before .before .before .before .before .before .before .before .before .before .before .if2 .left) (c .before .before .before .before .before .before .before .before .before .before .if3 .left)) (c .before .before .before .before .before .before .carry-out4 .ensures .0) (c .before .before .before .before .before .before .carry-out4 .ensures .1)
 
 pub perform-spec : {M : Type 1} → statement M
 perform-spec =
