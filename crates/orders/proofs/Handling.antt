@@ -1,12 +1,11 @@
 -- What each handler needs and says, of a message that was ordered.
 use Prim.Native.Nat.{ℕ, _+_, _-_, _*_, _≤_, _<_, _^_}
 use mathlib.Core.Path.{_≡_, refl, sym, ap, _∙_, subst}
-use mathlib.Core.Bool.{Bool, true, false, cond}
-use mathlib.Core.List.{List, [], _∷_}
+use mathlib.Core.Bool.{true, false}
+use mathlib.Core.List.{List}
 use mathlib.Core.Logic.{_⊎_, inl, inr}
 use native.Mathlib.Omega.{arith}
-use lib.Bits.{bitAnd}
-use lib.ListN.{length, take, drop, replicate, length-drop}
+use lib.ListN.{length, take, drop, length-drop}
 use borrow.Author.Tests.{eqb-true}
 use Rattle.digits.specs.Digits.{allDigits, numberOf}
 use Rattle.digits.proofs.Inverse.{inverse}
@@ -14,10 +13,9 @@ use Rattle.digits.proofs.Laid.{part-rest}
 use Rattle.frames.specs.Frame.{contentIn}
 use Rattle.kinds.specs.declared.Kind.{Kind}
 use Rattle.kinds.specs.declared.Held.{Held}
-use Rattle.kinds.specs.Kinds.{pointsTag, columnsTag, integersTag, flagsTag, pointsOf, integersOf, flagsOf, kindOf, holds, placeOf, sizeOf}
+use Rattle.kinds.specs.Kinds.{pointsTag, columnsTag, integersTag, pointsOf, integersOf, flagsOf, kindOf, holds, placeOf, sizeOf}
 use Rattle.kinds.proofs.Known.{kind-points, kind-columns, kind-integers, kind-flags, own-kind, sized, within, few, room}
-use Rattle.pairs.specs.Pairs.{bytesIn}
-use Rattle.points.specs.Point.{fillsOf, slotsOf}
+use Rattle.points.specs.Point.{fillsOf}
 use Rattle.points.proofs.Parts.{all-drop}
 use Rattle.table.specs.declared.Follows.{Follows}
 use Rattle.table.specs.declared.Follows.the-variants.{TenBytes, AxisPattern, Points, RunBytes, ChangeType}
@@ -31,10 +29,10 @@ use Rattle.writes.specs.Writes.{Ready, Written}
 use Rattle.calls.specs.Calls.{Sent}
 use Rattle.refusals.specs.Refusals.{journalFits}
 use Rattle.refusals.proofs.Tested.{journal-fits}
-use Rattle.orders.specs.Orders.{rest, writes, newBytes, saidBy}
+use Rattle.orders.specs.Orders.{writes, newBytes, saidBy}
 use Rattle.orders.specs.declared.Order.{Order}
 use Rattle.orders.specs.Contract.{kindIn, Ordered, Stores}
-use Rattle.orders.proofs.Judging.{Judged, judged-so, Writable, writable, not-so}
+use Rattle.orders.proofs.Judging.{Judged, judged-so, writable, not-so}
 
 module _ {x : Order} {frame area : List ℕ} (o : Ordered x frame area) where
   abbrev h : Held

@@ -1,4 +1,4 @@
-use mathlib.Core.Path.{_≡_, sym, _∙_, subst}
+use mathlib.Core.Path.{_≡_, sym, _∙_}
 use native.Mathlib.Omega.{arith}
 use Rattle.calls.specs.Calls.{Call, callOf, areasOf}
 use Rattle.refusals.specs.Refusals.{silentOf}

@@ -1,4 +1,4 @@
-use mathlib.Core.Path.{_≡_, refl}
+use mathlib.Core.Path.{refl}
 use Rattle.kinds.specs.Kinds.{pointsTag, columnsTag, integersTag, flagsTag}
 use Rattle.calls.specs.Calls.{Call, callOf, areasOf}
 use Rattle.link.specs.Answer.{held}
