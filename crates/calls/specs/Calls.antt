@@ -45,8 +45,11 @@ abbrev pub areasOf : List ℕ → List ℕ → List ℕ → List ℕ → List �
 areasOf points columns integers flags journal kept firsts =
     record { points = points; columns = columns; integers = integers; flags = flags; journal = journal; kept = kept; firsts = firsts }
 
+abbrev pub sentOf : List ℕ → Axes → Settings → List ℕ → Sent
+sentOf frame axes settings reply = record { frame = frame; axes = axes; settings = settings; reply = reply }
+
 abbrev pub callOf : List ℕ → Axes → Settings → List ℕ → Areas → Call
-callOf frame axes settings reply areas = record { sent = record { frame = frame; axes = axes; settings = settings; reply = reply }; areas = areas }
+callOf frame axes settings reply areas = record { sent = sentOf frame axes settings reply; areas = areas }
 
 -- "Fresh is all zero bytes and used length 0", "zero when fresh" (02, a), on a board that holds so much, with a journal of so many bytes
 abbrev pub fresh : Held → ℕ → Areas

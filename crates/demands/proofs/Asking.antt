@@ -27,12 +27,13 @@ use Rattle.table.specs.Table.{row, messageOf, fieldsOf, programIn, startIn, cou
 use Rattle.messages.specs.Asked.{askedOf, judged, numberGiven}
 use Rattle.messages.proofs.Judged.{Right, told, ordered}
 use Rattle.kinds.specs.Kinds.{kindOf, heldIn, holds}
-use Rattle.calls.specs.Calls.{Areas, Sent, Call, Outcome, callOf, lengthsOf}
+use Rattle.calls.specs.Calls.{Areas, Sent, Call, Outcome, callOf, lengthsOf, areaIn}
 use Rattle.refusals.specs.Refusals.{silentOf}
 use Rattle.refusals.proofs.Rows.{AreasPass, silent-is, past-silent}
-use Rattle.link.specs.Answer.{held, asked, saidBy, textOf, areasAfter, answerOf}
+use Rattle.orders.specs.Orders.{saidBy}
+use Rattle.link.specs.Answer.{held, asked, textOf, areasAfter, answerOf}
 use Rattle.link.proofs.Answering.{heard-answer, accepted}
-use Rattle.link.proofs.Carrying.{Judged, judged-so}
+use Rattle.orders.proofs.Judging.{Judged, judged-so}
 use Rattle.demands.specs.History.{ours}
 use Rattle.demands.specs.Reading.{content, startOf, countOf, commandOf, Host, asking, Says}
 use Rattle.demands.proofs.Commands.{Heard, heard, messageNamed, message-of}
@@ -115,7 +116,7 @@ module _ (a : Areas) (h : Sent) (frame : List ℕ) where
 -- asked so, the board accepts and says what its order does
 pub says : (a : Areas) (asks said : List ℕ) (q : Message) → Open a → 3 ≤ length asks → length asks ≤ 1016 → messageNamed (take 3 asks) ≡ Known q
     → ((fitted : ℕ) → Right (heldIn (lengthsOf a)) fitted q (drop 3 asks))
-    → ((h : Sent) (frame : List ℕ) → saidBy (q .does) (sending a h frame) q (startIn q (drop 3 asks)) (countIn q (drop 3 asks)) ≡ said)
+    → ((h : Sent) (frame : List ℕ) → saidBy (q .does) (heldIn (lengthsOf a)) (sending a h frame .sent) q (startIn q (drop 3 asks)) (countIn q (drop 3 asks)) (areaIn (q .tag) a) ≡ said)
     → Says ours a asks said
 says a asks said q p least most e r t =
     record {

@@ -24,11 +24,11 @@ use Rattle.table.specs.declared.Action.the-variants.{ReadRun, ChangeRun}
 use Rattle.table.specs.declared.Message.{Message}
 use Rattle.table.specs.declared.Named.the-variants.{Known}
 use Rattle.table.specs.Table.{row, fieldsOf, startIn, countIn}
-use Rattle.queries.specs.Replies.{headOf, runText}
-use Rattle.calls.specs.Calls.{Areas, Sent, callOf, lengthsOf, areaIn}
+use Rattle.heads.specs.Heads.{headOf, runText}
+use Rattle.calls.specs.Calls.{Areas, Sent, sentOf, lengthsOf, areaIn}
 use Rattle.messages.proofs.Judged.{Right}
 use Rattle.refusals.proofs.Tested.{sound}
-use Rattle.link.specs.Answer.{saidBy}
+use Rattle.orders.specs.Orders.{saidBy}
 use Rattle.link.proofs.Carrying.{areas-long}
 use Rattle.demands.specs.History.{ours}
 use Rattle.demands.specs.Reading.{content, startOf, countOf, restOf, untouched, Says, asksRun, digitsFrom, kindIn, RunSaid, RunRead, RunTold}
@@ -89,13 +89,15 @@ module _ (id id′ program start count tag : ℕ) (repeats : Bool) where
 
     -- what a query of any run says
     pub said-run : (number many : ℕ) (x : Sent) (frame : List ℕ)
-        → saidBy ReadRun (callOf frame (x .axes) (x .settings) (x .reply) a) read number many ≡ headOf read number many ++ digitsIn (runOf k number many (areaIn tag a))
+        → saidBy ReadRun (heldIn (lengthsOf a)) (sentOf frame (x .axes) (x .settings) (x .reply)) read number many (areaIn tag a)
+        ≡ headOf read number many ++ digitsIn (runOf k number many (areaIn tag a))
     said-run number many x frame = ap (λ (y : Held). runText read (kindOf y tag) number many (areaIn tag a)) (t .is-held)
 
     -- a query of the same run says the ID and the very content that was sent
     pub said-back : 1 ≤ count → untouched tag (startOf change s) (countOf change s) later ≡ true → (x : Sent) (frame : List ℕ)
-        → saidBy ReadRun (callOf frame (x .axes) (x .settings) (x .reply) a) read (startIn read (take (fieldsOf change) (content s)))
+        → saidBy ReadRun (heldIn (lengthsOf a)) (sentOf frame (x .axes) (x .settings) (x .reply)) read (startIn read (take (fieldsOf change) (content s)))
         (countIn read (take (fieldsOf change) (content s)))
+        (areaIn tag a)
         ≡ digitsOf 3 id′ ++ content s
     said-back some u x frame =
         let c = content s in
@@ -134,9 +136,10 @@ module _ {name : List ℕ} {id tag : ℕ} (q : Query name id tag) where
   asks-it : (a : Areas) (fields said : List ℕ) → Open a → length fields ≤ 7
       → ((fitted : ℕ) → Right (heldIn (lengthsOf a)) fitted (row id 2 3 2 tag Nothing ReadRun true) fields)
       → ((h : Sent) (frame : List ℕ)
-      → saidBy ReadRun (callOf frame (h .axes) (h .settings) (h .reply) a) (row id 2 3 2 tag Nothing ReadRun true)
+      → saidBy ReadRun (heldIn (lengthsOf a)) (sentOf frame (h .axes) (h .settings) (h .reply)) (row id 2 3 2 tag Nothing ReadRun true)
       (startIn (row id 2 3 2 tag Nothing ReadRun true) fields)
       (countIn (row id 2 3 2 tag Nothing ReadRun true) fields)
+      (areaIn tag a)
       ≡ said)
       → Says ours a (name ++ fields) said
   asks-it a fields said o l r t =
@@ -146,7 +149,7 @@ module _ {name : List ℕ} {id tag : ℕ} (q : Query name id tag) where
       says a (name ++ fields) said m o (omega (arith, n, three)) (omega (arith, n, three, l)) (ap messageNamed (take-at name fields 3 three) ∙ q .is-named)
       (λ fitted. subst (Right (heldIn (lengthsOf a)) fitted m) (sym d) (r fitted))
       (λ h frame.
-      ap (λ (x : List ℕ). saidBy ReadRun (callOf frame (h .axes) (h .settings) (h .reply) a) m (startIn m x) (countIn m x)) d ∙ t h frame)
+      ap (λ (x : List ℕ). saidBy ReadRun (heldIn (lengthsOf a)) (sentOf frame (h .axes) (h .settings) (h .reply)) m (startIn m x) (countIn m x) (areaIn tag a)) d ∙ t h frame)
 
   -- of any numbers that are held it says two digits for each byte
   pub reads-any : (a : Areas) → Open a → RunTold ours a name tag

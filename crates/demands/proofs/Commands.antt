@@ -131,7 +131,7 @@ station-byte station frame h e =
 
 -- the rows of the messages that are spoken of
 abbrev pub counting : Message
-counting = row 0x208 0 0 0 0 Nothing CountPoints false
+counting = row 0x208 0 0 0 pointsTag Nothing CountPoints false
 
 abbrev pub listing : Message
 listing = row 0x209 0 3 3 pointsTag Nothing ListPoints false

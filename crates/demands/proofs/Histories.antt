@@ -26,7 +26,8 @@ use Rattle.messages.specs.Asked.{askedOf}
 use Rattle.messages.proofs.Judged.{told}
 use Rattle.calls.specs.Calls.{Areas, Sent, Outcome, fresh, areaIn, putIn, oldEntry, withEntries, steppedBack}
 use Rattle.calls.proofs.Tagged.{each-long}
-use Rattle.link.specs.Answer.{newBytes, asked, answerOf, backOf}
+use Rattle.orders.specs.Orders.{newBytes}
+use Rattle.link.specs.Answer.{asked, answerOf, backOf}
 use Rattle.link.proofs.Answering.{accepted-back}
 use Rattle.demands.specs.Refused.{asksWrite}
 use Rattle.demands.specs.History.{ours, Event, frame, stepBack, callOn, after, acceptedWrite, butLast, standing, Past, past, alone, allAccepted, entries, runSaid, entrySaid, entryBy, stored, account, entered, Holds, EveryHistory}

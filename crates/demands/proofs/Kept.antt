@@ -10,7 +10,8 @@ use Rattle.journal.proofs.Codec.{Bytes}
 use Rattle.table.specs.declared.Message.{Message}
 use Rattle.messages.proofs.Judged.{Right}
 use Rattle.calls.specs.Calls.{Areas, Sent, Call, lengthsOf, areaIn}
-use Rattle.link.specs.Answer.{held, writes, newBytes, answerOf}
+use Rattle.orders.specs.Orders.{writes, newBytes}
+use Rattle.link.specs.Answer.{held, answerOf}
 use Rattle.link.proofs.Carrying.{fine, areas-long}
 use Rattle.demands.specs.Reading.{startOf, countOf, restOf, untouched}
 use Rattle.demands.proofs.Asking.{Took, Ordered, Open}

@@ -20,8 +20,8 @@ use Rattle.table.specs.Table.{messageOf, startIn, countIn}
 use Rattle.messages.specs.Asked.{askedOf}
 use Rattle.messages.proofs.Judged.{told}
 use Rattle.calls.specs.Calls.{Areas, Sent, fresh, areaIn, putIn}
-use Rattle.link.specs.Answer.{writes}
-use Rattle.link.proofs.Carrying.{writable}
+use Rattle.orders.specs.Orders.{writes}
+use Rattle.orders.proofs.Judging.{writable}
 use Rattle.demands.specs.History.{Past, runSaid, account}
 use Rattle.demands.specs.Reading.{content, startOf, countOf, spares, untouched}
 use Rattle.demands.proofs.Asking.{Ordered, ordered-so}

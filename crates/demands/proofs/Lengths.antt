@@ -1,6 +1,6 @@
 -- No reply is longer than 1,024 bytes: what each message's reply says, by what it has the board do.
-use Prim.Native.Nat.{ℕ, zero, suc, _+_, _-_, _*_, _≤_}
-use mathlib.Core.Path.{_≡_, refl, subst}
+use Prim.Native.Nat.{ℕ, zero, suc, _+_, _-_, _*_, _/_, _≤_}
+use mathlib.Core.Path.{_≡_, refl}
 use mathlib.Core.Bool.{Bool, true, false}
 use mathlib.Core.List.{List, _++_}
 use native.Mathlib.Omega.{arith}
@@ -12,7 +12,7 @@ use Rattle.digits.specs.Digits.{numberOf}
 use Rattle.digits.proofs.Bools.{either}
 use Rattle.frames.specs.Frame.{normal, error, threeOf}
 use Rattle.frames.proofs.Closing.{length-reply}
-use Rattle.kinds.specs.Kinds.{kindOf, placeOf, runArea}
+use Rattle.kinds.specs.Kinds.{kindOf, placeOf}
 use Rattle.points.specs.Axes.{axesOf}
 use Rattle.points.proofs.Ones.{at-most}
 use Rattle.table.specs.declared.Action.{Action}
@@ -22,13 +22,17 @@ use Rattle.table.specs.Table.{Narrow}
 use Rattle.messages.specs.declared.Asked.{Asked}
 use Rattle.messages.specs.declared.Asked.the-variants.{Refused, Order}
 use Rattle.listing.specs.Listing.{listing, listed, joined}
-use Rattle.queries.specs.Replies.{headOf, listText}
-use Rattle.queries.proofs.Texts.{head-repeating, head-alone, length-run, length-flags, length-list, length-axes}
-use Rattle.calls.specs.Calls.{Call, Outcome}
+use Rattle.heads.specs.Heads.{headOf, runText, flagsText}
+use Rattle.queries.specs.Replies.{listText}
+use Rattle.heads.proofs.Texts.{head-repeating, head-alone, length-run, length-flags}
+use Rattle.queries.proofs.Texts.{length-list, length-axes}
+use Rattle.calls.specs.Calls.{Call, Outcome, areaIn}
 use Rattle.refusals.specs.Refusals.{silentOf}
-use Rattle.link.specs.Answer.{held, asked, rest, saidBy, textOf}
-use Rattle.link.specs.Contract.{Heard}
-use Rattle.link.proofs.Handling as handling
+use Rattle.orders.specs.Orders.{rest, saidBy}
+use Rattle.link.specs.Answer.{held, asked, textOf}
+use Rattle.link.proofs.Carrying.{fine, ordered}
+use Rattle.orders.specs.Contract.{Ordered}
+use Rattle.orders.proofs.Handling as handling
 use Rattle.demands.specs.Replied.{ReplyFits}
 use Rattle.demands.proofs.Refused.{answer-either}
 
@@ -65,45 +69,51 @@ head-short m start count n = go (m .repeats) refl
 abbrev Short : List ℕ → Type 0
 Short t = length t ≤ 1017
 
-module _ (c : Call) (m : Message) (start count : ℕ) (h : Heard c m start count) where
+module _ (c : Call) (m : Message) (start count : ℕ) (z : silentOf c ≡ 0) (e : asked c ≡ Order m start count) where
+  abbrev area : List ℕ
+  area = areaIn (m .tag) (c .areas)
+
+  order : Ordered (record { message = m; start = start; count = count; held = held c }) (c .sent .frame) area
+  order = ordered c _ (record { silent-0 = z; held-is = refl; order = e }) (λ _. refl)
+
   head : Short (headOf m start count)
-  head = omega (arith, head-short m start count (handling.content c m start count h .narrow))
+  head = omega (arith, head-short m start count (handling.content order .narrow))
+
+  -- a run's digits behind the head
+  run-short : (t : List ℕ) (n : ℕ) → n ≤ 1000 → length t ≡ 3 + length (headOf m start count) - 3 + n → Short t
+  run-short t n l e = let s = head-short m start count (handling.content order .narrow) in omega (arith, e, l, s)
 
   -- what is said after the station, by what the message has the board do
-  said-short : (a : Action) → m .does ≡ a → Short (saidBy (m .does) c m start count)
-  said-short SayBack d =
-      subst Short (handling.same-said c m start count h d refl) (omega (arith, handling.same-needs c m start count h d refl .1))
-  said-short CountPoints d = subst Short (handling.count-said c m start count h d refl) (omega arith)
-  said-short ListPoints d = subst Short (handling.list-said c m start count h d refl) (list-short m start count _)
+  said-short : (a : Action) → m .does ≡ a → Short (saidBy a (held c) (c .sent) m start count area)
+  said-short SayBack d = omega (arith, handling.same-needs order d refl)
+  said-short CountPoints d = omega arith
+  said-short ListPoints d = list-short m start count _
   said-short ReadRun d =
       let k = kindOf (held c) (m .tag) in
-      let r = handling.run-needs c m start count h d refl in
-      let s = head-short m start count (handling.content c m start count h .narrow) in
-      let l = length-run m k start count (3 + length (headOf m start count)) (placeOf k start) (count * k .unit) (runArea (m .tag) (c .areas .columns) (c .areas .integers)) refl refl refl (omega (arith, r .1)) in
-      subst Short (handling.run-said c m start count h d refl) (omega (arith, l, r .0 .3))
+      let r = handling.run-needs order d (fine c z .reply-long) refl in
+      run-short (runText m k start count area) (2 * (count * k .unit)) (r .0 .3)
+      (length-run m k start count (3 + length (headOf m start count)) (placeOf k start) (count * k .unit) area refl refl refl (omega (arith, r .1)))
   said-short AxisStatus d =
-      let p = bitAnd (numberOf (rest c m)) (c .sent .settings .fitted) in
-      let b = handling.one-byte c m start count h d refl refl in
-      let l = and-le-l (numberOf (rest c m)) (c .sent .settings .fitted) in
-      subst Short (handling.axes-said c m start count h d refl refl)
-      (rw (length-axes m p (length (axesOf p)) (c .sent .axes .records) refl) (omega (arith, at-most p (omega arith))))
-  said-short WritePoints d = subst Short (handling.points-said c m start count h d) head
-  said-short ClearRun d = subst Short (handling.clear-said c m start count h d) head
-  said-short ChangeRun d = subst Short (handling.change-said c m start count h d) head
+      let p = bitAnd (numberOf (rest (c .sent) m)) (c .sent .settings .fitted) in
+      let b = handling.one-byte order d refl refl in
+      let l = and-le-l (numberOf (rest (c .sent) m)) (c .sent .settings .fitted) in
+      rw (length-axes m p (length (axesOf p)) (c .sent .axes .records) refl) (omega (arith, at-most p (omega arith)))
+  said-short WritePoints d = head
+  said-short ClearRun d = head
+  said-short ChangeRun d = head
   said-short ShowFlags d =
       let k = kindOf (held c) (m .tag) in
-      let r = handling.flags-needs c m start count h d refl in
-      let s = head-short m start count (handling.content c m start count h .narrow) in
-      let l = length-flags m k start count (3 + length (headOf m start count)) (placeOf k start) (count * k .unit) (c .areas .flags) refl refl refl (omega (arith, r .1)) in
-      subst Short (handling.flags-said c m start count h d refl) (omega (arith, l, r .0 .3))
-  said-short SetFlag d = subst Short (handling.flag-said c m start count h d) head
+      let r = handling.flags-needs order d (fine c z .reply-long) refl in
+      let l = length-flags m k start count (3 + length (headOf m start count)) (placeOf k start) (count * k .unit) area refl refl refl (omega (arith, r .1)) in
+      run-short (flagsText m k start count area) (2 * ((count * k .unit + 7) / 8)) (omega (arith, r .0 .3)) l
+  said-short SetFlag d = head
 
 -- the reply to what a heard frame asks
 asked-short : (c : Call) (a : Asked) → silentOf c ≡ 0 → asked c ≡ a → length (textOf c a) ≤ 1024
 asked-short c (Refused k) z e = rw (length-reply error (c .sent .settings .station) (threeOf k)) (omega arith)
 asked-short c (Order m start count) z e =
-    rw (length-reply normal (c .sent .settings .station) (saidBy (m .does) c m start count))
-    (omega (arith, said-short c m start count (record { silent-0 = z; order = e }) (m .does) refl))
+    rw (length-reply normal (c .sent .settings .station) (saidBy (m .does) (held c) (c .sent) m start count (areaIn (m .tag) (c .areas))))
+    (omega (arith, said-short c m start count z e (m .does) refl))
 
 pub reply-fits : ReplyFits
 reply-fits c =

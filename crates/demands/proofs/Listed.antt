@@ -25,8 +25,8 @@ use Rattle.points.proofs.Parts.{all-drop}
 use Rattle.listing.specs.Listing.{listed}
 use Rattle.calls.specs.Calls.{Areas, Sent, lengthsOf}
 use Rattle.refusals.proofs.Tested.{sound}
-use Rattle.link.specs.Answer.{writes, newBytes}
-use Rattle.link.proofs.Carrying.{writable}
+use Rattle.orders.specs.Orders.{writes, newBytes}
+use Rattle.orders.proofs.Judging.{writable}
 use Rattle.demands.specs.History.{ours}
 use Rattle.demands.specs.Reading.{content, startOf, countOf, restOf, untouched, Says, sentBy, fitting, lists, listRoom, asksPoints, PointsRead, PointsGone, effectiveOf, slotsFrom, Tells}
 use Rattle.demands.proofs.Commands.{counting, listing, writing, clearing, named}

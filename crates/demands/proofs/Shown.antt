@@ -19,7 +19,7 @@ use Rattle.flags.proofs.Promised.{shown}
 use Rattle.table.specs.declared.Action.the-variants.{ShowFlags}
 use Rattle.calls.specs.Calls.{Areas, Sent, lengthsOf}
 use Rattle.refusals.proofs.Tested.{sound}
-use Rattle.queries.specs.Replies.{flagsText}
+use Rattle.heads.specs.Heads.{flagsText}
 use Rattle.demands.specs.History.{ours}
 use Rattle.demands.specs.Reading.{startOf, restOf, untouched, Says, kindIn, asksFlags, FlagShown, FlagRead, FlagStored}
 use Rattle.demands.proofs.Commands.{showing, setting, named}

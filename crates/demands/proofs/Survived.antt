@@ -20,7 +20,8 @@ use Rattle.table.specs.declared.Message.{Message}
 use Rattle.table.specs.declared.Named.the-variants.{Known}
 use Rattle.table.specs.Table.{row, messageOf}
 use Rattle.calls.specs.Calls.{Areas, Sent, Call, lengthsOf}
-use Rattle.link.specs.Answer.{held, rest, writes, newBytes, answerOf}
+use Rattle.orders.specs.Orders.{rest, writes, newBytes}
+use Rattle.link.specs.Answer.{held, answerOf}
 use Rattle.refusals.proofs.Rows.{call-passed}
 use Rattle.link.proofs.Carrying.{fine}
 use Rattle.demands.specs.History.{ours}
@@ -81,11 +82,11 @@ module _ (id : ℕ) (follows : Follows) (does : Action) (repeats : Bool) where
   slots = row id 0 3 3 pointsTag follows does repeats
 
   counted-once : (c : Call) → Took slots c → writes does ≡ true → (many : ℕ)
-      → effectiveIn (countOf slots (c .sent)) (newBytes does 40 (countOf slots (c .sent)) (rest c slots)) ≡ many → Once ours slots c many
+      → effectiveIn (countOf slots (c .sent)) (newBytes does 40 (countOf slots (c .sent)) (rest (c .sent) slots)) ≡ many → Once ours slots c many
   counted-once c t w many e =
       let s = startOf slots (c .sent) in
       let n = countOf slots (c .sent) in
-      let new = newBytes does 40 n (rest c slots) in
+      let new = newBytes does 40 n (rest (c .sent) slots) in
       let r = wrote slots c t w in
       let stored : answerOf c .areas .points ≡ put (pointsOf (held c)) s new (c .areas .points) = rw (kind-points (held c)) at (r .own) in
       let all : holds (pointsOf (held c)) s n ≡ true = rw (kind-points (held c)) at (r .run .run .held-all) in
@@ -113,7 +114,7 @@ written-once c a =
     let t = subst (λ (m : Message). Took m c) e (taken c a) in
     subst (λ (m : Message). Once ours m c (countOf m (c .sent))) (sym e)
     (counted-once 0x244 Points WritePoints true c t refl (countOf writing (c .sent))
-    (effective-sent (c .sent .settings .fitted) (countOf writing (c .sent)) (rest c writing) (was-not (t .right .pattern))))
+    (effective-sent (c .sent .settings .fitted) (countOf writing (c .sent)) (rest (c .sent) writing) (was-not (t .right .pattern))))
 
 cleared-once : (c : Call) (a : Accepted 0x246 c) → Once ours (a .message) c 0
 cleared-once c a =

@@ -21,8 +21,10 @@ use Rattle.calls.proofs.Tagged.{put-own, put-other}
 use Rattle.kinds.specs.declared.Lengths.{Lengths}
 use Rattle.refusals.specs.Refusals.{journalFits}
 use Rattle.refusals.proofs.Rows.{AreasPass, call-passed}
-use Rattle.link.specs.Answer.{held, rest, writes, newBytes, answerOf}
-use Rattle.link.proofs.Carrying.{fine, areas-long, Writable, writable}
+use Rattle.orders.specs.Orders.{rest, writes, newBytes}
+use Rattle.link.specs.Answer.{held, answerOf}
+use Rattle.orders.proofs.Judging.{Writable, writable}
+use Rattle.link.proofs.Carrying.{fine, areas-long}
 use Rattle.demands.specs.History.{ours}
 use Rattle.demands.specs.Reading.{content, startOf, countOf}
 use Rattle.demands.specs.Survive.{Outside, OnlyNamed}
@@ -42,7 +44,7 @@ abbrev pub kindNamed : Message → Call → Kind
 kindNamed m c = kindOf (held c) (m .tag)
 
 abbrev pub newIn : Message → Call → List ℕ
-newIn m c = newBytes (m .does) (kindNamed m c .unit) (countOf m (c .sent)) (rest c m)
+newIn m c = newBytes (m .does) (kindNamed m c .unit) (countOf m (c .sent)) (rest (c .sent) m)
 
 -- what an accepted write leaves
 pub record Wrote (m : Message) (c : Call) : Type 0 where

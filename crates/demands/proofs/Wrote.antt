@@ -25,9 +25,10 @@ use Rattle.table.specs.Table.{restIn}
 use Rattle.messages.specs.Asked.{askedOf}
 use Rattle.calls.specs.Calls.{Areas, Sent, Outcome, areaIn, putIn, oldEntry, written}
 use Rattle.calls.proofs.Tagged.{each-long, same-areas}
-use Rattle.link.specs.Answer.{writes, newBytes, areasAfter, storedBy, answerOf}
+use Rattle.orders.specs.Orders.{writes, newBytes}
+use Rattle.link.specs.Answer.{areasAfter, storedBy, answerOf}
 use Rattle.link.proofs.Answering.{accepted, heard-answer}
-use Rattle.link.proofs.Carrying.{Writable, writable, judged-so}
+use Rattle.orders.proofs.Judging.{Writable, writable, judged-so}
 use Rattle.demands.specs.Refused.{asksWrite}
 use Rattle.demands.specs.History.{ours, frame, callOn, after}
 use Rattle.demands.proofs.Journals.{added-fits}

@@ -16,7 +16,8 @@ use Rattle.table.specs.declared.Named.the-variants.{Known, Unknown}
 use Rattle.table.specs.Table.{messageOf, startIn, countIn, restIn}
 use Rattle.calls.specs.Calls.{Areas, Sent, Call, Outcome, fresh, lengthsOf, areaIn, putIn, entriesOf, oldEntry}
 use Rattle.refusals.specs.Refusals.{leastJournal, refusalOf}
-use Rattle.link.specs.Answer.{newBytes, asked, answerOf, backOf}
+use Rattle.orders.specs.Orders.{newBytes}
+use Rattle.link.specs.Answer.{asked, answerOf, backOf}
 use Rattle.demands.specs.Refused.{asksWrite}
 
 -- what a board does: the outcome of a frame, and of a step back

@@ -13,7 +13,8 @@ use Rattle.table.specs.declared.Named.the-variants.{Known}
 use Rattle.table.specs.Table.{messageOf}
 use Rattle.calls.specs.Calls.{Sent, Call, areaIn}
 use Rattle.refusals.specs.Refusals.{refusalOf}
-use Rattle.link.specs.Answer.{held, writes}
+use Rattle.orders.specs.Orders.{writes}
+use Rattle.link.specs.Answer.{held}
 use Rattle.demands.specs.History.{Conduct, Past, AfterAny}
 use Rattle.demands.specs.Reading.{startOf, countOf, Host, Reads, effectiveOf, Tells}
 

@@ -75,7 +75,3 @@ runOf k start count area = take (count * k .unit) (drop (placeOf k start) area)
 
 unfoldable pub put : Kind → ℕ → List ℕ → List ℕ → List ℕ
 put k start bytes area = laid area (placeOf k start) bytes
-
--- of the two areas whose runs are read and changed alike, that of a tag; asked of these two tags alone
-abbrev pub runArea : ℕ → List ℕ → List ℕ → List ℕ
-runArea tag columns integers = cond (eqb tag integersTag) integers columns

@@ -1,13 +1,12 @@
 -- From the tests to the outcome.
-use Prim.Native.Nat.{ℕ, zero, suc, _≤_, _<_}
+use Prim.Native.Nat.{ℕ, zero, suc, _<_}
 use mathlib.Core.Path.{_≡_, refl, sym, ap, _∙_}
-use mathlib.Core.Bool.{Bool, true, false, cond}
-use mathlib.Core.List.{List, []}
+use mathlib.Core.Bool.{Bool, true, false}
+use mathlib.Core.List.{List}
 use native.Mathlib.Omega.{arith}
 use lib.Dec.{eqb}
 use lib.ListN.{length}
 use borrow.Author.Tests.{ne-eqb, eqb-true, eqb-false}
-use Rattle.digits.proofs.Bools.{either}
 use Rattle.frames.specs.Frame.{contentIn}
 use Rattle.kinds.specs.declared.Held.{Held}
 use Rattle.kinds.specs.Kinds.{heldIn}
@@ -16,11 +15,11 @@ use Rattle.messages.specs.declared.Asked.{Asked}
 use Rattle.messages.specs.declared.Asked.the-variants.{Refused, Order}
 use Rattle.messages.specs.Rows.{firstOf}
 use Rattle.table.specs.Table.{messageOf}
-use Rattle.messages.specs.Asked.{askedRows, askedOf, judged, numberGiven}
+use Rattle.messages.specs.Asked.{askedRows, askedOf, numberGiven}
 use Rattle.messages.proofs.Judged.{number-judged, refused-some}
 use Rattle.calls.specs.Calls.{Areas, Call, Outcome, lengthsOf, steppedBack}
 use Rattle.refusals.specs.Refusals.{silent, silentOf, refusalOf, backRefusalOf}
-use Rattle.refusals.proofs.Rows.{numberOf, CallPassed, silent-is, refusal-is, call-passed, past-silent, silent-given}
+use Rattle.refusals.proofs.Rows.{silent-is, refusal-is, call-passed, past-silent, silent-given}
 use Rattle.link.specs.Answer.{asked, textOf, areasAfter, unanswered, answerOf, backOf}
 
 pub silent-first : (c : Call) → silentOf c ≡ firstOf (silent c)

@@ -1,5 +1,4 @@
 pub mod Answering
 pub mod Carrying
 pub mod Outcomes
-pub mod Handling
 pub mod Backing

@@ -1,6 +1,6 @@
 -- What a handler's contract says, as the outcome.
-use Prim.Native.Nat.{ℕ, _-_}
-use mathlib.Core.Path.{_≡_, refl, sym, ap, ap₂, _∙_}
+use Prim.Native.Nat.{ℕ, _≤_}
+use mathlib.Core.Path.{_≡_, refl, sym, ap, ap₂, _∙_, subst}
 use mathlib.Core.Bool.{Bool, true, false, cond}
 use mathlib.Core.List.{List}
 use native.Mathlib.Omega.{arith}
@@ -9,28 +9,33 @@ use borrow.Author.Tests.{eqb-true}
 use lib.ListN.{length, take}
 use Rattle.digits.specs.Laid.{laid}
 use Rattle.digits.proofs.Laid.{laid-nothing}
-use Rattle.frames.specs.Frame.{errorOf}
+use Rattle.frames.specs.Frame.{contentIn, errorOf, replyOf, normal}
 use Rattle.frames.proofs.Closing.{length-reply}
 use Rattle.kinds.specs.declared.Kind.{Kind}
 use Rattle.kinds.specs.declared.Held.{Held}
 use Rattle.kinds.specs.declared.Firsts.{Firsts}
-use Rattle.kinds.specs.Kinds.{pointsTag, columnsTag, integersTag, flagsTag, pointsOf, columnsOf, integersOf, flagsOf, kindOf, sizeOf, runOf, put}
-use Rattle.kinds.proofs.Known.{own-kind, kind-points, kind-columns, kind-integers, kind-flags, tag-of}
+use Rattle.kinds.specs.Kinds.{pointsTag, columnsTag, integersTag, flagsTag, pointsOf, columnsOf, integersOf, flagsOf, kindOf, runOf, put}
+use Rattle.kinds.proofs.Known.{each-kind, kind-points, kind-columns, kind-integers, kind-flags, tag-of, few}
 use Rattle.journal.specs.Journal.{encodes, entriesIn, added, areaOf, puts, entryFor}
-use Rattle.table.specs.declared.Message.{Message}
 use Rattle.messages.specs.declared.Asked.{Asked}
-use Rattle.messages.specs.declared.Asked.the-variants.{Refused, Order}
+use Rattle.messages.specs.declared.Asked.the-variants as asks
+use Rattle.messages.specs.declared.Asked.the-variants.{Refused}
 use Rattle.messages.specs.Asked.{numberGiven}
-use Rattle.queries.specs.Laws.{Replied}
-use Rattle.writes.specs.Writes.{Ready, Written}
+use Rattle.writes.specs.Writes.{Written}
 use Rattle.calls.specs.declared.Kept.{Kept}
 use Rattle.calls.specs.Calls.{Areas, Call, Outcome, areasOf, areaIn, written}
-use Rattle.refusals.specs.Refusals.{silentOf}
+use Rattle.refusals.specs.Refusals.{journalFits, silentOf}
+use Rattle.orders.specs.declared.Order.{Order}
+use Rattle.orders.specs.declared.Done.{Done}
+use Rattle.orders.specs.Orders.{rest, writes, newBytes, saidBy}
+use Rattle.orders.specs.Contract.{kindIn, Ordered, Says, Stores}
+use Rattle.orders.proofs.Judging.{writable}
+use Rattle.orders.proofs.Handling.{content, said-same}
 use Rattle.link.specs.declared.Answered.{Answered}
-use Rattle.link.specs.Answer.{held, asked, writes, saidBy, textOf, areasAfter, unanswered, answerOf}
-use Rattle.link.specs.Contract.{Heard, Answers}
+use Rattle.link.specs.Answer.{held, asked, textOf, areasAfter, unanswered, answerOf}
+use Rattle.link.specs.Contract.{Heard, accepted, Answers}
 use Rattle.link.proofs.Answering.{silent-answer, heard-answer}
-use Rattle.link.proofs.Carrying.{Fine, Named}
+use Rattle.link.proofs.Carrying.{Fine, fine, ordered}
 
 -- areas of equal parts
 pub same-areas : {p p′ c c′ n n′ f f′ j j′ : List ℕ} {k k′ : Kept} {s : Firsts} → p ≡ p′ → c ≡ c′ → n ≡ n′ → f ≡ f′ → j ≡ j′ → k .used ≡ k′ .used
@@ -72,16 +77,6 @@ answered-refused c k r reply′ s e f g =
     (same-areas refl refl refl refl refl (ap (λ (x : Kept). x .used) (f .2)))
     g
 
-module _ (c : Call) (m : Message) (start count : ℕ) (h : Heard c m start count) (r : Answered) (long left : ℕ) (reply′ : List ℕ)
-    (f : (r .number ≡ 0) × (r .length ≡ long) × (r .kept .used ≡ left))
-    (p : Replied (c .sent .reply) reply′ long (c .sent .settings .station) (saidBy (m .does) c m start count)) where
-  -- an order's reply, with the areas that it leaves
-  pub answered : (areas′ : Areas) → r .kept ≡ areas′ .kept → areas′ ≡ areasAfter c (Order m start count) → Answers c r areas′ reply′
-  answered areas′ k e = answers-by c _ r areas′ reply′ k (asked-so c (Order m start count) (h .silent-0) (h .order)) (f .0) (f .1 ∙ p .length-is) e (p .bytes)
-
-  pub answered-said : writes (m .does) ≡ false → left ≡ c .areas .kept .used → Answers c r (handingOn (c .areas) (r .kept)) reply′
-  answered-said w u = answered (handingOn (c .areas) (r .kept)) refl (rw w (same-areas refl refl refl refl refl (f .2 ∙ u)))
-
 -- areas with another area of a kind, by its tag
 abbrev pub replacing : ℕ → List ℕ → Areas → List ℕ → Kept → Areas
 replacing tag area′ a journal′ kept′ =
@@ -114,19 +109,58 @@ module _ (a : Areas) (h : Held) (tag start count : ℕ) (new area′ journal′ 
       (w .journalled .bytes ∙ ap (λ (t : ℕ). areaOf (length (a .journal)) (added (length (a .journal)) (entriesIn h 0 (take (a .kept .used) (a .journal))) (entryFor t start (runOf (kindOf h tag) start count (areaIn tag a))))) (tag-of h tag))
       (w .journalled .used ∙ ap (λ (t : ℕ). length (encodes (added (length (a .journal)) (entriesIn h 0 (take (a .kept .used) (a .journal))) (entryFor t start (runOf (kindOf h tag) start count (areaIn tag a)))))) (tag-of h tag))
 
--- a board that can be written
-pub ready : (c : Call) (tag start count : ℕ) (area : List ℕ) → Fine c → Named (held c) tag start count → length area ≡ sizeOf (kindOf (held c) tag)
-    → Ready (held c) (kindOf (held c) tag) start count area (c .areas .journal) (c .areas .kept .used)
-ready c tag start count area f n l =
-    record {
-      sound = f .sound-held;
-      own = own-kind (held c) tag;
-      some = n .some;
-      held-all = n .held-all;
-      named = n .named;
-      area-long = l;
-      room = omega (arith, n .few-bytes, f .journal .least);
-      largest = f .journal .most;
-      used-within = f .journal .within;
-      entries-whole = f .journal .entries;
-    }
+-- of a tag that none of the others is, flags are held or nothing
+pub last-kind : (h : Held) (tag : ℕ) → (tag ≡ pointsTag → ⊥) → (tag ≡ columnsTag → ⊥) → (tag ≡ integersTag → ⊥) → 1 ≤ kindOf h tag .held → tag ≡ flagsTag
+last-kind h tag p c n =
+    each-kind (λ (k : Kind). 1 ≤ k .held → tag ≡ flagsTag) h tag (λ e _. absurd (p e)) (λ e _. absurd (c e)) (λ e _. absurd (n e)) (λ e _. e)
+    (λ z. absurd (omega arith))
+
+-- an order, carried out in the area of a tag, which is its message's where anything of that kind is held
+module _ {c : Call} {o : Order} (e : Heard c o) (tag : ℕ) (whole : replacing tag (areaIn tag (c .areas)) (c .areas) (c .areas .journal) (c .areas .kept) ≡ c .areas)
+    (w : 1 ≤ kindOf (held c) (o .message .tag) .held → o .message .tag ≡ tag) where
+  board : Fine c
+  board = fine c (e .silent-0)
+
+  of-kind : 1 ≤ kindOf (held c) (o .message .tag) .held → areaIn tag (c .areas) ≡ areaIn (o .message .tag) (c .areas)
+  of-kind z = ap (λ (t : ℕ). areaIn t (c .areas)) (sym (w z))
+
+  can : Ordered o (c .sent .frame) (areaIn tag (c .areas))
+  can = ordered c o e of-kind
+
+  pub can-carry : Ordered o (c .sent .frame) (areaIn tag (c .areas)) × (1024 ≤ length (c .sent .reply))
+      × (journalFits (o .held) (c .areas .journal) (c .areas .kept .used) ≡ true)
+  can-carry = (can, board .reply-long, rw (e .held-is) (board .areas .journal-fits))
+
+  module _ {r : Done} {area′ journal′ reply′ : List ℕ} (p : Says o (c .sent) (areaIn tag (c .areas)) (r .length) reply′)
+      (s : Stores o (c .sent .frame) (areaIn tag (c .areas)) area′ (c .areas .journal) journal′ (c .areas .kept .used) (r .kept .used)) where
+    abbrev saying : Held → List ℕ → List ℕ
+    saying h area = saidBy (o .message .does) h (c .sent) (o .message) (o .start) (o .count) area
+
+    said : saying (o .held) (areaIn tag (c .areas)) ≡ saying (held c) (areaIn (o .message .tag) (c .areas))
+    said =
+        ap (λ (h : Held). saying h (areaIn tag (c .areas))) (e .held-is)
+        ∙ rw (e .held-is) at (said-same can {own = areaIn (o .message .tag) (c .areas)} (c .sent) (rw (e .held-is) of-kind))
+
+    left : (b : Bool) → writes (o .message .does) ≡ b
+        → replacing tag area′ (c .areas) journal′ (r .kept)
+        ≡ cond b (written (held c) (o .message .tag) (o .start) (o .count) (newBytes (o .message .does) (kindOf (held c) (o .message .tag) .unit) (o .count) (rest (c .sent) (o .message))) (c .areas)) (c .areas)
+    left true f =
+        let n = writable (o .held) (contentIn (c .sent .frame)) (o .message) (o .start) (o .count) (content can) f .run in
+        let z : 1 ≤ kindOf (held c) (o .message .tag) .held = rw (sym (e .held-is)) (omega (arith, few (kindIn o) (o .start) (o .count) (n .held-all), n .some)) in
+        ap (λ (t : ℕ). replacing t area′ (c .areas) journal′ (r .kept)) (sym (w z))
+        ∙ written-so (c .areas) (held c) (o .message .tag) (o .start) (o .count) _ area′ journal′ (r .kept) (rw (e .held-is, of-kind z) at (s .wrote f))
+    left false f = let q = s .stayed f in (λ i. replacing tag (q .0 i) (c .areas) (q .1 i) (record { used = q .2 i })) ∙ whole
+
+    pub performed : Answers c (accepted r) (replacing tag area′ (c .areas) journal′ (r .kept)) reply′
+    performed =
+        answers-by c _ (accepted r) (replacing tag area′ (c .areas) journal′ (r .kept)) reply′ refl
+        (asked-so c (asks.Order (o .message) (o .start) (o .count)) (e .silent-0) (e .order))
+        refl
+        (p .length-is ∙ ap (λ (x : List ℕ). length (replyOf normal (c .sent .settings .station) x)) said)
+        (left (writes (o .message .does)) refl)
+        (p .bytes ∙ ap (λ (x : List ℕ). laid (c .sent .reply) 0 (replyOf normal (c .sent .settings .station) x)) said)
+
+-- the result that says so
+pub accepted-so : {c : Call} {r : Answered} (done : Done) {p i n f j reply′ : List ℕ} {s : Firsts} → r ≡ accepted done
+    → Answers c (accepted done) (areasOf p i n f j (done .kept) s) reply′ → Answers c r (areasOf p i n f j (r .kept) s) reply′
+accepted-so {c} done {p} {i} {n} {f} {j} {reply′} {s} e a = subst (λ (x : Answered). Answers c x (areasOf p i n f j (x .kept) s) reply′) (sym e) a

@@ -7,15 +7,21 @@ use Rattle.digits.specs.Laid.{laid}
 use Rattle.calls.specs.Calls.{Areas, Call}
 use Rattle.link.specs.declared.Answered.{Answered}
 use Rattle.link.specs.declared.Back.{Back}
-use Rattle.table.specs.declared.Message.{Message}
-use Rattle.messages.specs.declared.Asked.the-variants.{Order}
+use Rattle.messages.specs.declared.Asked.the-variants as asks
 use Rattle.refusals.specs.Refusals.{silentOf}
-use Rattle.link.specs.Answer.{asked, answerOf, backOf}
+use Rattle.orders.specs.declared.Order.{Order}
+use Rattle.orders.specs.declared.Done.{Done}
+use Rattle.link.specs.Answer.{held, asked, answerOf, backOf}
 
 -- a call whose frame is heard, no refusal holding, and orders this
-pub record Heard (c : Call) (m : Message) (start count : ℕ) : Type 0 where
+pub record Heard (c : Call) (o : Order) : Type 0 where
   pub silent-0 : silentOf c ≡ 0
-  pub order : asked c ≡ Order m start count
+  pub held-is : o .held ≡ held c
+  pub order : asked c ≡ asks.Order (o .message) (o .start) (o .count)
+
+-- an order that was carried out: "An accepted call has number 0."
+abbrev pub accepted : Done → Answered
+accepted done = record { number = 0; length = done .length; kept = done .kept }
 
 -- what an answer gives and leaves is the outcome; the reply is laid over the front of the reply area, and what is beyond it stays
 pub record Answers (c : Call) (r : Answered) (areas′ : Areas) (reply′ : List ℕ) : Type 0 where

@@ -12,25 +12,14 @@ use kinds::Kind;
 use kinds::Lengths;
 use kinds::held_in;
 use messages::Asked;
-use messages::content;
 use messages::judge;
-use queries::read_run;
-use queries::reply_axes;
-use queries::reply_count;
-use queries::reply_flags;
-use queries::reply_head;
-use queries::reply_list;
-use queries::reply_same;
+use orders::Done;
+use orders::Order;
+use orders::carry_out;
 use refusals::back_refusal;
 use refusals::silent;
-use table::Action;
-use table::Message;
-use writes::change_run;
-use writes::clear;
-use writes::set_flag;
-use writes::write_points;
 ghost use mathlib.Core.Path.{_≡_};
-ghost use Prim.Native.Nat.{_+_, _≤_};
+ghost use Prim.Native.Nat.{_≤_};
 ghost use lib.ListN.{length};
 ghost use Rattle.digits.specs.Laid.{laid};
 ghost use Rattle.frames.specs.Frame.{errorOf};
@@ -38,7 +27,7 @@ ghost use Rattle.kinds.specs.Kinds.{Sound, pointsOf, columnsOf, integersOf, fla
 ghost use Rattle.journal.specs.Journal.{puts, entryFor};
 ghost use Rattle.journal.specs.Laws.{Good};
 ghost use Rattle.calls.specs.Calls.{areasOf, callOf};
-ghost use Rattle.link.specs.Contract.{Heard, Answers, StepsBack};
+ghost use Rattle.link.specs.Contract.{Heard, accepted, Answers, StepsBack};
 
 // The answer to a frame: its number, the reply's length, what is handed on.
 pub struct Answered {
@@ -53,13 +42,15 @@ pub struct Back {
     pub kept: Kept,
 }
 
-fn accept(long: usize, used: usize) -> Answered
-    ensures { λ r. ⌜ (r .number ≡ 0) × (r .length ≡ long) × (r .kept .used ≡ used) ⌝ }
+// What an order that was carried out gives: number 0.
+fn accept(done: Done) -> Answered
+    ensures { λ r. ⌜ r ≡ accepted done ⌝ }
 {
+    let kept = done.kept;
     Answered {
         number: 0,
-        length: long,
-        kept: Kept { used },
+        length: done.length,
+        kept,
     }
 }
 
@@ -77,11 +68,9 @@ fn refuse(reply: &mut [u8], station: u8, number: u16, kept: Kept) -> Answered
     }
 }
 
-// What a message orders, once no refusal holds: a query's reply, or a write and its reply.
-fn carry_out(
-    m: Message,
-    start: usize,
-    count: usize,
+// An order carried out in the area of the message's kind; a message that asks of no kind is handed the last one, and leaves it.
+fn perform(
+    order: Order,
     frame: &[u8],
     points: &mut [u8],
     columns: &mut [u8],
@@ -93,79 +82,25 @@ fn carry_out(
     axes: Axes,
     settings: Settings,
     reply: &mut [u8],
-) -> Answered
-    requires { ⌜ Heard (callOf (now frame) axes settings (now reply) (areasOf (now points) (now columns) (now integers) (now flags) (now journal) kept firsts)) m start count ⌝ }
+) -> Done
+    requires { ⌜ Heard (callOf (now frame) axes settings (now reply) (areasOf (now points) (now columns) (now integers) (now flags) (now journal) kept firsts)) order ⌝ }
     ensures { λ r. ⌜ Answers
         (callOf (now (frame .entry)) axes settings (now (reply .entry))
         (areasOf (now (points .entry)) (now (columns .entry)) (now (integers .entry)) (now (flags .entry)) (now (journal .entry)) kept firsts))
-        r (areasOf (now (points .exit)) (now (columns .exit)) (now (integers .exit)) (now (flags .exit)) (now (journal .exit)) (r .kept) firsts) (now (reply .exit)) ⌝ }
+        (accepted r) (areasOf (now (points .exit)) (now (columns .exit)) (now (integers .exit)) (now (flags .exit)) (now (journal .exit)) (r .kept) firsts) (now (reply .exit)) ⌝ }
 {
-    let station = settings.station;
-    let lengths = Lengths {
-        points: points.len(),
-        columns: columns.len(),
-        integers: integers.len(),
-        flags: flags.len(),
-        firsts,
-    };
-    let held = held_in(lengths);
-    let k = held.kind(m.tag);
-    let fields = m.program + m.start + m.count;
-    let body = content(frame);
-    let rest = &body[fields..];
-    let does = m.does;
-    match does {
-        Action::SayBack => accept(reply_same(reply, station, m, rest), kept.used),
-        Action::CountPoints => {
-            let long = reply_count(reply, station, m, points, held.points);
-            accept(long, kept.used)
-        }
-        Action::ListPoints => {
-            let at = k.place(start);
-            let long = reply_list(reply, station, m, &points[at..], start, count);
-            accept(long, kept.used)
-        }
-        Action::ReadRun => {
-            let long = read_run(columns, integers, reply, station, m, k, start, count);
-            accept(long, kept.used)
-        }
-        Action::AxisStatus => {
-            let pattern = digits::number(rest) as u8;
-            let records = axes.records;
-            let long = reply_axes(reply, station, m, pattern & settings.fitted, records);
-            accept(long, kept.used)
-        }
-        Action::WritePoints => {
-            let left = write_points(points, journal, kept.used, held, k, start, count, rest);
-            accept(reply_head(reply, station, m, start, count), left)
-        }
-        Action::ClearRun => {
-            let left = clear(points, journal, kept.used, held, k, start, count);
-            accept(reply_head(reply, station, m, start, count), left)
-        }
-        Action::ChangeRun => {
-            let left = change_run(
-                columns,
-                integers,
-                journal,
-                kept.used,
-                held,
-                k,
-                start,
-                count,
-                rest,
-            );
-            accept(reply_head(reply, station, m, start, count), left)
-        }
-        Action::ShowFlags => {
-            let long = reply_flags(reply, station, m, k, flags, start, count);
-            accept(long, kept.used)
-        }
-        Action::SetFlag => {
-            let left = set_flag(flags, journal, kept.used, held, k, start, rest);
-            accept(reply_head(reply, station, m, start, count), left)
-        }
+    let m = order.message;
+    let tag = m.tag;
+    if tag == Kind::POINTS {
+        return carry_out(order, frame, points, journal, kept, axes, settings, reply);
     }
+    if tag == Kind::COLUMNS {
+        return carry_out(order, frame, columns, journal, kept, axes, settings, reply);
+    }
+    if tag == Kind::INTEGERS {
+        return carry_out(order, frame, integers, journal, kept, axes, settings, reply);
+    }
+    carry_out(order, frame, flags, journal, kept, axes, settings, reply)
 }
 
 // The answer to a frame: any bytes, any areas, any lengths.
@@ -202,29 +137,36 @@ pub fn answer(
             kept,
         };
     }
-    let asked = judge(frame, held_in(lengths), settings.fitted);
+    let held = held_in(lengths);
+    let asked = judge(frame, held, settings.fitted);
     match asked {
         Asked::Refused { number: given } => refuse(reply, settings.station, given, kept),
         Asked::Order {
             message,
             start,
             count,
-        } => carry_out(
-            message,
-            start,
-            count,
-            frame,
-            points,
-            columns,
-            integers,
-            flags,
-            journal,
-            kept,
-            firsts,
-            axes,
-            settings,
-            reply,
-        ),
+        } => {
+            let order = Order {
+                message,
+                start,
+                count,
+                held,
+            };
+            accept(perform(
+                order,
+                frame,
+                points,
+                columns,
+                integers,
+                flags,
+                journal,
+                kept,
+                firsts,
+                axes,
+                settings,
+                reply,
+            ))
+        }
     }
 }
 

@@ -1,12 +1,11 @@
 -- The rows of a message as one choice over truth values, and what an order tells.
-use Prim.Native.Nat.{ℕ, _+_, _≤_, _<_}
+use Prim.Native.Nat.{ℕ, _≤_, _<_}
 use mathlib.Core.Path.{_≡_, refl, sym, ap, _∙_, subst}
 use mathlib.Core.Bool.{Bool, true, false, cond, not, _&&_}
 use mathlib.Core.List.{List}
 use native.Mathlib.Omega.{arith}
 use lib.Dec.{eqb, leb}
-use lib.ListN.{length, take, drop, length-drop}
-use lib.Seq.{length-take-le}
+use lib.ListN.{length}
 use borrow.Author.Tests.{eqb-true, eqb-false, eq-eqb, ne-eqb, le-leb, lt-leb, not-false}
 use Rattle.digits.specs.Digits.{allDigits, numberOf}
 use Rattle.frames.specs.Frame.{contentIn}
@@ -23,7 +22,8 @@ use Rattle.messages.specs.declared.Asked.{Asked}
 use Rattle.messages.specs.declared.Asked.the-variants.{Refused, Order}
 use Rattle.messages.specs.Rows.{firstOf}
 use Rattle.table.specs.Table.{messageOf, fieldsOf, programIn, startIn, countIn, restIn, followsRight, anyBytes, havePoints, haveType, patternsFit}
-use Rattle.messages.specs.Asked.{notDigits, wrongLength, wrongProgram, countZero, notHeld, wrongPattern, wrongType, askedRows, judged, askedOf, numberGiven}
+use Rattle.contents.specs.Tests.{notDigits, wrongLength, wrongProgram, countZero, notHeld, wrongPattern, wrongType}
+use Rattle.messages.specs.Asked.{askedRows, judged, askedOf, numberGiven}
 
 abbrev pub pick : Bool → Bool → Bool → Bool → Bool → Bool → Bool → ℕ
 pick p q r s t u v = cond p 102 (cond q 103 (cond r 104 (cond s 105 (cond t 106 (cond u 107 (cond v 108 0))))))
@@ -139,12 +139,6 @@ told held fitted (Known k) content m start count e = go (eqb (picked held fitted
           rows = subst (λ (x : Message). Right held fitted x content) q (right held fitted k content (eqb-true _ _ z));
         }
     go false z f = absurd (let w : _≡_ {A = ℕ} 0 1 = cc in omega arith)
-
--- a count, as the field is read
-pub counted : {n : ℕ} (m : Message) (content : List ℕ) → fieldsOf m ≤ length content
-    → n ≡ cond (eqb (length (take (m .count) (drop (m .program + m .start) content))) 0) 1 (numberOf (take (m .count) (drop (m .program + m .start) content)))
-    → n ≡ countIn m content
-counted m content r e = rw (length-take-le (m .count) (drop (m .program + m .start) content) (simp length-drop (omega arith))) at e
 
 -- a content that passed 102 is digits, unless it is any bytes; where points follow it is digits
 points-digits : (x : Follows) → havePoints x ≡ true → anyBytes x ≡ false

@@ -1,4 +1,3 @@
-pub mod Patterns
 pub mod Judged
 pub mod Shapes
 pub mod Promised

@@ -50,7 +50,7 @@ Runs m = ((m .tag ≡ columnsTag) ⊎ (m .tag ≡ integersTag)) × (1 ≤ m .sta
 
 abbrev pub Shape : Action → Message → Type 0
 Shape SayBack m = (fieldsOf m ≡ 0) × (m .follows ≡ TenBytes)
-Shape CountPoints m = Unit
+Shape CountPoints m = m .tag ≡ pointsTag
 Shape ListPoints m = Names pointsTag m
 Shape ReadRun m = Runs m
 Shape AxisStatus m = (fieldsOf m ≡ 0) × (m .follows ≡ AxisPattern)
@@ -78,7 +78,7 @@ shaped-row m w s =
     }
 
 pub each-shaped : Each Shaped messages
-each-shaped = (shaped-row _ refl (refl, refl), (shaped-row _ refl tt, (shaped-row _ refl (refl, omega arith, omega arith), (shaped-row _ refl (refl, omega arith, omega arith), (shaped-row _ refl (inr refl, omega arith, refl), (shaped-row _ refl (inl refl, omega arith, refl), (shaped-row _ refl (refl, refl), (shaped-row _ refl ((refl, omega arith, omega arith), refl), (shaped-row _ refl (refl, omega arith, omega arith), (shaped-row _ refl (refl, omega arith, refl, refl), (shaped-row _ refl ((inr refl, omega arith, refl), refl), (shaped-row _ refl ((inl refl, omega arith, refl), refl), tt))))))))))))
+each-shaped = (shaped-row _ refl (refl, refl), (shaped-row _ refl refl, (shaped-row _ refl (refl, omega arith, omega arith), (shaped-row _ refl (refl, omega arith, omega arith), (shaped-row _ refl (inr refl, omega arith, refl), (shaped-row _ refl (inl refl, omega arith, refl), (shaped-row _ refl (refl, refl), (shaped-row _ refl ((refl, omega arith, omega arith), refl), (shaped-row _ refl (refl, omega arith, omega arith), (shaped-row _ refl (refl, omega arith, refl, refl), (shaped-row _ refl ((inr refl, omega arith, refl), refl), (shaped-row _ refl ((inl refl, omega arith, refl), refl), tt))))))))))))
 
 pub shaped : (frame : List ℕ) (m : Message) → messageOf frame ≡ Known m → Shaped m
 shaped frame m e = in-frame Shaped frame each-shaped e

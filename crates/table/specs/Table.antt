@@ -19,7 +19,7 @@ use Rattle.table.specs.declared.Message.{Message}
 use Rattle.table.specs.declared.Named.{Named}
 use Rattle.table.specs.declared.Named.the-variants.{Known, Unknown}
 
--- a row: ID; how many digits program number, start number and count have, 0 where it has none; the tag of the kind that it names; what follows
+-- a row: ID; how many digits program number, start number and count have, 0 where it has none; the tag of the kind that it asks of, 0 where it asks of none; what follows
 -- these fields; what it has the board do; whether the reply repeats the fields
 abbrev pub row : ℕ → ℕ → ℕ → ℕ → ℕ → Follows → Action → Bool → Message
 row id program start count tag follows does repeats =
@@ -30,7 +30,7 @@ row id program start count tag follows does repeats =
 abbrev pub messages : List Message
 messages =
     row 0x200 0 0 0 0 TenBytes SayBack false
-    ∷ row 0x208 0 0 0 0 Nothing CountPoints false
+    ∷ row 0x208 0 0 0 pointsTag Nothing CountPoints false
     ∷ row 0x209 0 3 3 pointsTag Nothing ListPoints false
     ∷ row 0x20D 2 4 4 flagsTag Nothing ShowFlags true
     ∷ row 0x20E 2 3 2 integersTag Nothing ReadRun true

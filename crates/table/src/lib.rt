@@ -30,7 +30,7 @@ pub enum Action {
     SetFlag,
 }
 
-// A row: the ID, how many digits program, start and count have, the tag of the kind that it names, what follows these
+// A row: the ID, how many digits program, start and count have, the tag of the kind that it asks of, what follows these
 // fields, what it does, and whether the reply repeats them.
 pub struct Message {
     pub id: u16,
@@ -50,15 +50,15 @@ pub enum Named {
 }
 
 // A message that names no run: it has no fields.
-fn plain(id: u16, follows: Follows, does: Action) -> Named
-    ensures { λ r. ⌜ r ≡ Known (row id 0 0 0 0 follows does false) ⌝ }
+fn plain(id: u16, tag: u8, follows: Follows, does: Action) -> Named
+    ensures { λ r. ⌜ r ≡ Known (row id 0 0 0 tag follows does false) ⌝ }
 {
     let message = Message {
         id,
         program: 0,
         start: 0,
         count: 0,
-        tag: 0,
+        tag,
         follows,
         does,
         repeats: false,
@@ -122,8 +122,8 @@ pub fn numbered(id: u64) -> Named
     ensures { λ r. ⌜ r ≡ messageNumbered id ⌝ }
 {
     match id {
-        0x200 => plain(0x200, Follows::TenBytes, Action::SayBack),
-        0x208 => plain(0x208, Follows::Nothing, Action::CountPoints),
+        0x200 => plain(0x200, 0, Follows::TenBytes, Action::SayBack),
+        0x208 => plain(0x208, Kind::POINTS, Follows::Nothing, Action::CountPoints),
         0x209 => of_points(0x209, Follows::Nothing, Action::ListPoints, false),
         0x20d => of_flags(0x20d, 4, Follows::Nothing, Action::ShowFlags, true),
         0x20e => of_run(
@@ -140,7 +140,7 @@ pub fn numbered(id: u64) -> Named
             Action::ReadRun,
             true,
         ),
-        0x212 => plain(0x212, Follows::AxisPattern, Action::AxisStatus),
+        0x212 => plain(0x212, 0, Follows::AxisPattern, Action::AxisStatus),
         0x244 => of_points(0x244, Follows::Points, Action::WritePoints, true),
         0x246 => of_points(0x246, Follows::Nothing, Action::ClearRun, false),
         0x24b => of_flags(0x24b, 0, Follows::ChangeType, Action::SetFlag, false),

@@ -30,9 +30,11 @@ use Rattle.calls.specs.declared.Kept.{Kept}
 use Rattle.calls.specs.Calls.{Areas, Call, Outcome, fresh, lengthsOf, areaIn}
 use Rattle.calls.proofs.Tagged.{put-own}
 use Rattle.refusals.specs.Refusals.{refusalOf}
-use Rattle.link.specs.Answer.{held, asked, rest, writes, newBytes, answerOf}
+use Rattle.orders.specs.Orders.{rest, writes, newBytes}
+use Rattle.link.specs.Answer.{held, asked, answerOf}
 use Rattle.link.proofs.Answering.{accepted, frame-number}
-use Rattle.link.proofs.Carrying.{fine, areas-long, Writable}
+use Rattle.orders.proofs.Judging.{Writable}
+use Rattle.link.proofs.Carrying.{fine, areas-long}
 use Rattle.trials.specs.Cases.{holding, bench}
 use Rattle.demands.specs.History.{Conduct, entries, entrySaid}
 use Rattle.demands.specs.Reading.{content, startOf, countOf, restOf, Host, asking, asksRun, digitsFrom, kindIn, effectiveOf}
@@ -339,7 +341,7 @@ module _ (m : Message) (c : Call) (t : Took m c) (w : writes (m .does) ≡ true)
   first-long : length (firstBytes c m (countOf m (c .sent))) ≡ 1 * k .unit
   first-long =
       let n : 1 * k .unit ≤ countOf m (c .sent) * k .unit = mul-le-mul-right (k .unit) (run .run .some) in
-      length-take-le (k .unit) (newBytes (m .does) (k .unit) (countOf m (c .sent)) (rest c m)) (omega (arith, n, run .long)) ∙ omega arith
+      length-take-le (k .unit) (newBytes (m .does) (k .unit) (countOf m (c .sent)) (rest (c .sent) m)) (omega (arith, n, run .long)) ∙ omega arith
 
   stored-first : areaIn (m .tag) (firstOnly (m .id) c (asked c) (answerOf c) .areas) ≡ put k start (firstBytes c m (countOf m (c .sent))) (areaIn (m .tag) (c .areas))
   stored-first =

@@ -12,7 +12,8 @@ use Rattle.journal.specs.Journal.{added, entryFor}
 use Rattle.calls.specs.Calls.{Areas, Sent, Call, Outcome, fresh, lengthsOf, putIn, oldEntry, withEntries}
 use Rattle.messages.specs.declared.Asked.{Asked}
 use Rattle.messages.specs.declared.Asked.the-variants.{Refused, Order}
-use Rattle.link.specs.Answer.{held, asked, writes, unanswered, answerOf, backOf}
+use Rattle.orders.specs.Orders.{writes}
+use Rattle.link.specs.Answer.{held, asked, unanswered, answerOf, backOf}
 use Rattle.trials.specs.Cases.{holding, sending}
 use Rattle.trials.specs.Useless.{RefusesAll, StoresNothing, StoresFirst, honestBut, storesNothing, storesFirst, usedAll, usedMore}
 use Rattle.demands.specs.History.{Conduct, ours, Event, frame, stepBack, callOn, Past, past, entries, account, EveryHistory}

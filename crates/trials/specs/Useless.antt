@@ -18,7 +18,8 @@ use Rattle.messages.specs.declared.Asked.the-variants.{Refused, Order}
 use Rattle.calls.specs.declared.Kept.{Kept}
 use Rattle.calls.specs.Calls.{Areas, Sent, Call, Outcome, areasOf, areaIn, putIn}
 use Rattle.link.specs.declared.Answered.{Answered}
-use Rattle.link.specs.Answer.{held, asked, rest, writes, newBytes, unanswered, answerOf, backOf}
+use Rattle.orders.specs.Orders.{rest, writes, newBytes}
+use Rattle.link.specs.Answer.{held, asked, unanswered, answerOf, backOf}
 use Rattle.link.specs.Contract.{Answers}
 use Rattle.demands.specs.Refused.{asksWrite}
 use Rattle.demands.specs.History.{Conduct, entries, entryBy}
@@ -150,7 +151,7 @@ whenWritten c change o = cond (eqb (o .number) 0 && asksWrite (asked c)) (change
 
 -- a message of an ID that is accepted stores the bytes of the first thing that it names alone
 abbrev pub firstBytes : Call → Message → ℕ → List ℕ
-firstBytes c m count = take (kindOf (held c) (m .tag) .unit) (newBytes (m .does) (kindOf (held c) (m .tag) .unit) count (rest c m))
+firstBytes c m count = take (kindOf (held c) (m .tag) .unit) (newBytes (m .does) (kindOf (held c) (m .tag) .unit) count (rest (c .sent) m))
 
 abbrev pub firstOnly : ℕ → Call → Asked → Outcome → Outcome
 firstOnly id c (Refused number) o = o

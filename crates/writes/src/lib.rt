@@ -13,7 +13,6 @@ ghost use Prim.Native.Nat.{_+_, _*_, _<_};
 ghost use lib.ListN.{length, replicate};
 ghost use Rattle.digits.specs.Digits.{allDigits, numberOf};
 ghost use Rattle.digits.specs.Laid.{laid};
-ghost use Rattle.kinds.specs.Kinds.{runArea};
 ghost use Rattle.pairs.specs.Pairs.{bytesIn};
 ghost use Rattle.points.specs.Point.{fillsOf, slotsOf};
 ghost use Rattle.writes.specs.Writes.{Ready, Entered, Written};
@@ -76,8 +75,8 @@ pub fn clear(
     left
 }
 
-// A run changed: one byte for each pair of digits. The new used length.
-fn change(
+// 24EH, 24CH, and every message that changes a run: one byte for each pair of digits. The new used length.
+pub fn change(
     area: &mut [u8],
     journal: &mut [u8],
     used: usize,
@@ -95,32 +94,6 @@ fn change(
     let left = enter(area, journal, used, held, k, start, count);
     set_bytes(area, k.place(start), digits, count * k.unit);
     left
-}
-
-// 24EH, 24CH, and every message that changes a run: in the area of its kind. The new used length.
-pub fn change_run(
-    columns: &mut [u8],
-    integers: &mut [u8],
-    journal: &mut [u8],
-    used: usize,
-    held: Held,
-    k: Kind,
-    start: usize,
-    count: usize,
-    digits: &[u8],
-) -> usize
-    requires { ⌜ (allDigits (now digits) ≡ true) × (length (now digits) ≡ 2 * (count * k .unit)) ⌝ }
-    requires { ⌜ Ready held k start count (runArea (k .tag) (now columns) (now integers)) (now journal) used ⌝ }
-    ensures { λ r. ⌜ Written held k start count (bytesIn (now (digits .entry)))
-        (runArea (k .tag) (now (columns .entry)) (now (integers .entry))) (runArea (k .tag) (now (columns .exit)) (now (integers .exit)))
-        (now (journal .entry)) (now (journal .exit)) used r ⌝ }
-    ensures { λ _. ⌜ runArea (k .tag) (now (integers .exit)) (now (columns .exit))
-        ≡ runArea (k .tag) (now (integers .entry)) (now (columns .entry)) ⌝ }
-{
-    if k.tag == Kind::INTEGERS {
-        return change(integers, journal, used, held, k, start, count, digits);
-    }
-    change(columns, journal, used, held, k, start, count, digits)
 }
 
 fn put_byte(area: &mut [u8], at: usize, b: u8)

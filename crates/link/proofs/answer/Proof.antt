@@ -5,7 +5,7 @@ use Rattle.refusals.specs.Refusals.{silentOf}
 use Rattle.refusals.proofs.Tested.{same-sound}
 use Rattle.link.proofs.Answering.{silent-first, same-asked}
 use Rattle.link.proofs.Carrying.{fine}
-use Rattle.link.proofs.Outcomes.{answered-silent, answered-refused}
+use Rattle.link.proofs.Outcomes.{answered-silent, answered-refused, accepted-so}
 use borrow.Author.Needs.{needs}
 use Rattle.link.proofs.answer.Statement.{statement}
 use Rattle.link.proofs.answer.Tie as tie
@@ -47,9 +47,12 @@ refuse-requires c κs = let g = c .before .before .before .before .before .befor
 enum-known-asked-2 : tie.Need-enum-known-asked-2
 enum-known-asked-2 c = search needs
 
-carry-out-requires : tie.Need-carry-out-requires
-carry-out-requires c κs = let g = c .before .before .before .before .before .before .before .before .before .before .before in
-    record { silent-0 = heard g; order = same-asked _ _ (sym (c .before .before .before .before .before .before .before .asked2 .given .1) ∙ c .before .before .before .before .before .before .before .before .before .judge .ensures) (c .before .before .before .before .before .before .before .before .before .before .held-in .ensures) }
+perform-requires : tie.Need-perform-requires
+perform-requires c κs = let g = c .before .before .before .before .before .before .before .before .before .before .before in
+    record { silent-0 = heard g; held-is = c .before .before .before .before .before .before .before .before .before .before .held-in .ensures; order = same-asked _ _ (sym (c .before .before .before .before .before .before .before .asked2 .given .1) ∙ c .before .before .before .before .before .before .before .before .before .judge .ensures) (c .before .before .before .before .before .before .before .before .before .before .held-in .ensures) }
+
+accept-requires : tie.Need-accept-requires
+accept-requires c κs = search needs
 
 same-length-2 : tie.Need-same-length-2
 same-length-2 c = search needs
@@ -81,7 +84,7 @@ same-length-9 : tie.Need-same-length-9
 same-length-9 c = search needs
 
 returns-3 : tie.Need-returns-3
-returns-3 c = search needs
+returns-3 c = accepted-so _ (c .accept .ensures) (c .before .before .before .before .before .before .before .before .before .before .before .before .before .perform .ensures)
 
 pub answer-spec : {M : Type 1} → statement M
 answer-spec =
@@ -95,7 +98,8 @@ answer-spec =
     enum-known-asked
     refuse-requires
     enum-known-asked-2
-    carry-out-requires
+    perform-requires
+    accept-requires
     same-length-2
     same-length-3
     returns-2

@@ -1,8 +1,9 @@
 use Prim.Native.Nat.{_+_, _*_}
 use native.Mathlib.Omega.{arith}
 use Rattle.points.proofs.Ones.{at-most}
+use Rattle.heads.proofs.Texts.{replied}
 use Rattle.queries.specs.Replies.{axesText}
-use Rattle.queries.proofs.Texts.{replied, axes-laid, length-axes}
+use Rattle.queries.proofs.Texts.{axes-laid, length-axes}
 use borrow.Author.Needs.{needs}
 use Rattle.queries.proofs.reply_axes.Statement.{statement}
 use Rattle.queries.proofs.reply_axes.Tie as tie

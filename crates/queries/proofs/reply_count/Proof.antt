@@ -1,7 +1,8 @@
 use mathlib.Core.Path.{refl}
 use native.Mathlib.Omega.{arith}
+use Rattle.heads.proofs.Texts.{replied}
 use Rattle.queries.specs.Replies.{countText}
-use Rattle.queries.proofs.Texts.{replied, count-laid}
+use Rattle.queries.proofs.Texts.{count-laid}
 use borrow.Author.Needs.{needs}
 use Rattle.queries.proofs.reply_count.Statement.{statement}
 use Rattle.queries.proofs.reply_count.Tie as tie

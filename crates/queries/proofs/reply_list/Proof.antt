@@ -1,7 +1,8 @@
 use Prim.Native.Nat.{_+_}
 use native.Mathlib.Omega.{arith}
+use Rattle.heads.proofs.Texts.{replied}
 use Rattle.queries.specs.Replies.{listText}
-use Rattle.queries.proofs.Texts.{replied, list-laid, length-list}
+use Rattle.queries.proofs.Texts.{list-laid, length-list}
 use borrow.Author.Needs.{needs}
 use Rattle.queries.proofs.reply_list.Statement.{statement}
 use Rattle.queries.proofs.reply_list.Tie as tie

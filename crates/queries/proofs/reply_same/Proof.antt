@@ -1,6 +1,6 @@
 use native.Mathlib.Omega.{arith}
+use Rattle.heads.proofs.Texts.{replied, behind}
 use Rattle.queries.specs.Replies.{sameText}
-use Rattle.queries.proofs.Texts.{replied, behind}
 use borrow.Author.Needs.{needs}
 use Rattle.queries.proofs.reply_same.Statement.{statement}
 use Rattle.queries.proofs.reply_same.Tie as tie

@@ -1,0 +1,2 @@
+pub mod Patterns
+pub mod Counted
