@@ -1,5 +1,4 @@
-// A frame's content, and the tests of it, 102 to 108 (document 01, "Each message" and "Refusal numbers"; document 02, a).
-use kinds::Kind;
+// A frame's content: its numbers, and the tests of what follows them, 103, 107 and 108 (document 01, "Each message" and "Refusal numbers"; document 02, a).
 use points::reading::fills;
 use points::reading::point_length;
 use table::Follows;
@@ -11,11 +10,9 @@ ghost use lib.Dec.{leb, eqb};
 ghost use lib.ListN.{length};
 ghost use Rattle.digits.specs.Digits.{allDigits, numberOf};
 ghost use Rattle.frames.specs.Frame.{contentIn};
-ghost use Rattle.kinds.specs.Kinds.{holds};
 ghost use Rattle.points.specs.Point.{fillsOf};
 ghost use Rattle.table.specs.Table.{fieldsOf, programIn, startIn, countIn, followsRight, Narrow};
-ghost use Rattle.table.specs.Table.{anyBytes, havePoints, haveType, patternFits, patternsFit};
-ghost use Rattle.contents.specs.Tests.{notDigits};
+ghost use Rattle.table.specs.Table.{havePoints, haveType, patternFits, patternsFit};
 
 // The content of a frame.
 pub fn content(frame: &[u8]) -> &[u8]
@@ -71,20 +68,6 @@ pub fn read_numbers(m: Message, content: &[u8]) -> Numbers
     }
 }
 
-// Ten bytes that may be any follow.
-fn is_any(follows: Follows) -> bool
-    ensures { λ r. ⌜ r ≡ anyBytes follows ⌝ }
-{
-    match follows {
-        Follows::Nothing => false,
-        Follows::TenBytes => true,
-        Follows::AxisPattern => false,
-        Follows::Points => false,
-        Follows::RunBytes => false,
-        Follows::ChangeType => false,
-    }
-}
-
 // Points follow.
 fn is_points(follows: Follows) -> bool
     ensures { λ r. ⌜ r ≡ havePoints follows ⌝ }
@@ -113,17 +96,6 @@ fn is_type(follows: Follows) -> bool
     }
 }
 
-// Refusal 102, passed.
-pub fn is_written(m: Message, content: &[u8]) -> bool
-    ensures { λ r. ⌜ r ≡ not (notDigits m (now (content .entry))) ⌝ }
-{
-    let follows = m.follows;
-    if is_any(follows) {
-        return true;
-    }
-    digits::all_digits(content)
-}
-
 // What follows the fields is as long as it should be, behind a count of units of so many bytes.
 pub fn is_long(follows: Follows, unit: usize, count: usize, rest: &[u8]) -> bool
     requires { ⌜ (count * unit < 4294967296) × (havePoints follows ≡ true → allDigits (now rest) ≡ true) ⌝ }
@@ -138,27 +110,6 @@ pub fn is_long(follows: Follows, unit: usize, count: usize, rest: &[u8]) -> bool
         Follows::RunBytes => n == 2 * (count * unit),
         Follows::ChangeType => n == 1,
     }
-}
-
-// Refusal 105.
-pub fn is_none(m: Message, count: usize) -> bool
-    ensures { λ r. ⌜ r ≡ leb 1 (m .count) && eqb count 0 ⌝ }
-{
-    if m.count < 1 {
-        return false;
-    }
-    count == 0
-}
-
-// Refusal 106.
-pub fn is_beyond(m: Message, k: Kind, start: usize, count: usize) -> bool
-    requires { ⌜ (start < 65536) × (count < 65536) × (k .first + k .held ≤ 65536) ⌝ }
-    ensures { λ r. ⌜ r ≡ leb 1 (m .start) && not (holds k start count) ⌝ }
-{
-    if m.start < 1 {
-        return false;
-    }
-    !k.has(start, count)
 }
 
 // A pattern is not 00, and each of its axes is fitted.

@@ -22,8 +22,7 @@ use Rattle.messages.specs.declared.Asked.{Asked}
 use Rattle.messages.specs.declared.Asked.the-variants.{Refused, Order}
 use Rattle.messages.specs.Rows.{firstOf}
 use Rattle.table.specs.Table.{messageOf, fieldsOf, programIn, startIn, countIn, restIn, followsRight, anyBytes, havePoints, haveType, patternsFit}
-use Rattle.contents.specs.Tests.{notDigits, wrongLength, wrongProgram, countZero, notHeld, wrongPattern, wrongType}
-use Rattle.messages.specs.Asked.{askedRows, judged, askedOf, numberGiven}
+use Rattle.messages.specs.Asked.{notDigits, wrongLength, wrongProgram, countZero, notHeld, wrongPattern, wrongType, askedRows, judged, askedOf, numberGiven}
 
 abbrev pub pick : Bool → Bool → Bool → Bool → Bool → Bool → Bool → ℕ
 pick p q r s t u v = cond p 102 (cond q 103 (cond r 104 (cond s 105 (cond t 106 (cond u 107 (cond v 108 0))))))

@@ -1,24 +1,25 @@
 // What a frame asks, 101 to 108 in the order tested: a read-only judgement (document 01, "Each message" and "Refusal numbers"; document 02, a).
 use contents::content;
-use contents::is_beyond;
 use contents::is_long;
-use contents::is_none;
 use contents::is_unfit;
 use contents::is_unlisted;
-use contents::is_written;
 use contents::read_numbers;
 use digits::Field;
 use kinds::Held;
+use kinds::Kind;
+use table::Follows;
 use table::Message;
 use table::Named;
 use table::numbered;
 ghost use mathlib.Core.Path.{_≡_};
-ghost use Prim.Native.Nat.{_≤_};
+ghost use mathlib.Core.Bool.{not, _&&_};
+ghost use Prim.Native.Nat.{_+_, _≤_, _<_};
+ghost use lib.Dec.{leb, eqb};
 ghost use lib.ListN.{length};
-ghost use Rattle.kinds.specs.Kinds.{Sound};
+ghost use Rattle.kinds.specs.Kinds.{Sound, holds};
 ghost use Rattle.table.specs.declared.Named.the-variants.{Known};
-ghost use Rattle.table.specs.Table.{messageOf, Narrow};
-ghost use Rattle.messages.specs.Asked.{judged, askedOf};
+ghost use Rattle.table.specs.Table.{messageOf, anyBytes, Narrow};
+ghost use Rattle.messages.specs.Asked.{notDigits, judged, askedOf};
 
 // What a frame asks: a refusal, 101 to 108, or a message's order with its start number and count.
 pub enum Asked {
@@ -42,6 +43,52 @@ fn message_in(frame: &[u8]) -> Named
         Field::Number(k) => numbered(k),
         Field::NotDigits => Named::Unknown,
     }
+}
+
+// Ten bytes that may be any follow.
+fn is_any(follows: Follows) -> bool
+    ensures { λ r. ⌜ r ≡ anyBytes follows ⌝ }
+{
+    match follows {
+        Follows::Nothing => false,
+        Follows::TenBytes => true,
+        Follows::AxisPattern => false,
+        Follows::Points => false,
+        Follows::RunBytes => false,
+        Follows::ChangeType => false,
+    }
+}
+
+// Refusal 102, passed.
+fn is_written(m: Message, content: &[u8]) -> bool
+    ensures { λ r. ⌜ r ≡ not (notDigits m (now (content .entry))) ⌝ }
+{
+    let follows = m.follows;
+    if is_any(follows) {
+        return true;
+    }
+    digits::all_digits(content)
+}
+
+// Refusal 105.
+fn is_none(m: Message, count: usize) -> bool
+    ensures { λ r. ⌜ r ≡ leb 1 (m .count) && eqb count 0 ⌝ }
+{
+    if m.count < 1 {
+        return false;
+    }
+    count == 0
+}
+
+// Refusal 106.
+fn is_beyond(m: Message, k: Kind, start: usize, count: usize) -> bool
+    requires { ⌜ (start < 65536) × (count < 65536) × (k .first + k .held ≤ 65536) ⌝ }
+    ensures { λ r. ⌜ r ≡ leb 1 (m .start) && not (holds k start count) ⌝ }
+{
+    if m.start < 1 {
+        return false;
+    }
+    !k.has(start, count)
 }
 
 // What a message with its content asks: 102 to 108 in this order, or its order.

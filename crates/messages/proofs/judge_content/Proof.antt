@@ -12,7 +12,7 @@ use Rattle.kinds.specs.Kinds.{kindOf}
 use Rattle.kinds.proofs.Known.{sized}
 use Rattle.points.proofs.Parts.{all-drop}
 use Rattle.table.specs.Table.{fieldsOf, countIn, restIn, followsRight}
-use Rattle.contents.specs.Tests.{notDigits, countZero, notHeld, wrongPattern, wrongType}
+use Rattle.messages.specs.Asked.{notDigits, countZero, notHeld, wrongPattern, wrongType}
 use Rattle.messages.proofs.Judged.{points-written, filled, one-digit, same-long, same-none, same-beyond, same-unfit, same-unlisted, same-fills, same-order, at-102, too-short, at-103, at-104, at-105, at-106, at-107, at-108, at-order}
 use borrow.Author.Needs.{needs}
 use Rattle.messages.proofs.judge_content.Statement.{statement}

@@ -1,7 +1,7 @@
 use borrow.Author.Needs.{needs}
 use borrow.Author.Tests.{le-leb, lt-leb}
-use Rattle.contents.proofs.is_beyond.Statement.{statement}
-use Rattle.contents.proofs.is_beyond.Tie as tie
+use Rattle.messages.proofs.is_beyond.Statement.{statement}
+use Rattle.messages.proofs.is_beyond.Tie as tie
 
 returns : tie.Need-returns
 returns c = rw (lt-leb 1 _ (c .if1 .taken))

@@ -1,8 +1,8 @@
 use mathlib.Core.Path.{sym, _∙_}
 use borrow.Author.Needs.{needs}
 use Rattle.digits.proofs.Bools.{not-not}
-use Rattle.contents.proofs.is_written.Statement.{statement}
-use Rattle.contents.proofs.is_written.Tie as tie
+use Rattle.messages.proofs.is_written.Statement.{statement}
+use Rattle.messages.proofs.is_written.Tie as tie
 
 is-any-requires : tie.Need-is-any-requires
 is-any-requires c κs = search needs

@@ -1,6 +1,6 @@
 use borrow.Author.Tests.{le-leb, lt-leb}
-use Rattle.contents.proofs.is_none.Statement.{statement}
-use Rattle.contents.proofs.is_none.Tie as tie
+use Rattle.messages.proofs.is_none.Statement.{statement}
+use Rattle.messages.proofs.is_none.Tie as tie
 
 returns : tie.Need-returns
 returns c = rw (lt-leb 1 _ (c .if1 .taken))
