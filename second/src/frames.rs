@@ -1,7 +1,8 @@
 //! Frames: finding them, their sum, and the tests 6, 7 and 8 (document 01, "Finding a frame" and
-//! "Frame"; document 000, sections 3 and 4-3-1).
+//! "Frame"; document 02, c; document 000, sections 3 and 4-3-1).
 
 use crate::digits;
+use std::ops::Range;
 
 /// Longest frame the board receives (000, 4-3: "maximum receivable size ... 1023 bytes").
 pub const LONGEST_FRAME: usize = 1_023;
@@ -9,15 +10,21 @@ pub const LONGEST_FRAME: usize = 1_023;
 pub const LONGEST_REPLY: usize = 1_024;
 /// Header, station, message ID, SC, CR and LF without any content.
 pub const SHORTEST_FRAME: usize = 10;
+/// A test call's frame: its ten bytes of content and these (document 02, c).
+pub const TEST_CALL_FRAME: usize = SHORTEST_FRAME + 10;
 
 const END: &[u8] = b"\r\n";
+/// Message ID of a test call.
+const TEST_CALL: &[u8] = b"200";
+/// Where the message ID stands in a frame.
+const ID: Range<usize> = 3..6;
 
 /// What the finder answers; `used` and `drop` count bytes from the front of the received ones.
 #[derive(Clone, Copy, Debug, PartialEq, Eq)]
 pub enum Found {
     /// A frame of `length` bytes stands at `start`; it ends where `used` ends.
     Frame { start: usize, length: usize, used: usize },
-    /// No '!' at all.
+    /// No '!' that isn't skipped.
     Nothing { drop: usize },
     /// A '!' whose frame may still end.
     Wait { drop: usize },
@@ -25,21 +32,60 @@ pub enum Found {
     TooLong { drop: usize },
 }
 
-/// Finds the first frame (document 01, "Finding a frame in the received bytes").
+/// Finds the first frame (document 01, "Finding a frame in the received bytes", mended by document 02,
+/// c): the first '!' that isn't skipped decides.
 pub fn find(received: &[u8]) -> Found {
-    let Some(start) = received.iter().position(|&byte| byte == b'!') else {
-        return Found::Nothing { drop: received.len() };
-    };
-    let from_it = &received[start..];
-    let looked_at = &from_it[..from_it.len().min(LONGEST_FRAME)];
-    match looked_at.windows(END.len()).position(|pair| pair == END) {
-        Some(pair) => {
-            let length = pair + END.len();
-            Found::Frame { start, length, used: start + length }
+    let marks = (0..received.len()).filter(|&at| received[at] == b'!');
+    for start in marks {
+        match from_mark(&received[start..]) {
+            FromMark::Frame { length } => {
+                return Found::Frame { start, length, used: start + length };
+            }
+            FromMark::Wait => return Found::Wait { drop: start },
+            // Only the '!' goes: a true frame may begin inside the overlong run.
+            FromMark::TooLong => return Found::TooLong { drop: start + 1 },
+            FromMark::Skip => {}
         }
-        // Only the '!' goes: a true frame may begin inside the overlong run.
-        None if looked_at.len() == LONGEST_FRAME => Found::TooLong { drop: start + 1 },
-        None => Found::Wait { drop: start },
+    }
+    Found::Nothing { drop: received.len() }
+}
+
+/// What one '!' and the bytes after it are.
+enum FromMark {
+    Frame { length: usize },
+    Wait,
+    TooLong,
+    Skip,
+}
+
+fn from_mark(bytes: &[u8]) -> FromMark {
+    match begins_test_call(bytes) {
+        true => test_call_from(bytes),
+        false => line_from(bytes),
+    }
+}
+
+/// Whether '!', two bytes that aren't CR LF, and '200' stand first: all six must be there.
+fn begins_test_call(bytes: &[u8]) -> bool {
+    bytes.starts_with(b"!") && bytes.get(1..3) != Some(END) && bytes.get(ID) == Some(TEST_CALL)
+}
+
+/// A test call's frame is 20 bytes long, whatever stands among its ten (document 02, c).
+fn test_call_from(bytes: &[u8]) -> FromMark {
+    match bytes.get(..TEST_CALL_FRAME) {
+        None => FromMark::Wait,
+        Some(frame) if frame.ends_with(END) => FromMark::Frame { length: TEST_CALL_FRAME },
+        Some(_) => FromMark::Skip,
+    }
+}
+
+/// Any other frame ends at the first CR LF among the first 1,023 bytes (document 01).
+fn line_from(bytes: &[u8]) -> FromMark {
+    let looked_at = &bytes[..bytes.len().min(LONGEST_FRAME)];
+    match looked_at.windows(END.len()).position(|pair| pair == END) {
+        Some(pair) => FromMark::Frame { length: pair + END.len() },
+        None if looked_at.len() == LONGEST_FRAME => FromMark::TooLong,
+        None => FromMark::Wait,
     }
 }
 
@@ -55,11 +101,12 @@ pub fn sc(before: &[u8]) -> Vec<u8> {
     text
 }
 
-/// Test 6: '!' first, CR LF last, 10 to 1,023 bytes.
+/// Test 6: '!' first, CR LF last, 10 to 1,023 bytes, and 20 of a 200H (document 02, c).
 pub fn has_shape(frame: &[u8]) -> bool {
     (SHORTEST_FRAME..=LONGEST_FRAME).contains(&frame.len())
         && frame.starts_with(b"!")
         && frame.ends_with(END)
+        && (&frame[ID] != TEST_CALL || frame.len() == TEST_CALL_FRAME)
 }
 
 /// Test 7, of a frame that passed 6: SC is true, or '@@' and then not checked.
@@ -76,7 +123,7 @@ pub(crate) fn has_station(frame: &[u8], station: u8) -> bool {
 
 /// Message ID and content of a frame that passed 6.
 pub(crate) fn id_and_content(frame: &[u8]) -> (&[u8], &[u8]) {
-    frame[3..frame.len() - 4].split_at(3)
+    (&frame[ID], &frame[ID.end..frame.len() - 4])
 }
 
 /// Adds SC, CR and LF; every reply carries a true SC (document 01, "Frame").
@@ -151,6 +198,34 @@ mod tests {
     }
 
     #[test]
+    fn finder_takes_a_test_call_by_its_length() {
+        let frame = |start: usize| Found::Frame { start, length: 20, used: start + 20 };
+        assert_eq!(find(b"!99200\r\n\r\n\r\n\r\n\r\n@@\r\n"), frame(0));
+        assert_eq!(find(b"\r\n!99200!99200\r\n12@@\r\n!"), frame(2));
+        // The SC may be any two bytes, and so may the station's, but for CR LF.
+        assert_eq!(find(b"!\r\r200\r\n01234567\r\n\r\n"), frame(0));
+        assert_eq!(
+            find(b"!\r\n200001234567829\r\n"),
+            Found::Frame { start: 0, length: 3, used: 3 }
+        );
+        // Other IDs end at their first pair.
+        assert_eq!(
+            find(b"!99201\r\n1234567829\r\n"),
+            Found::Frame { start: 0, length: 8, used: 8 }
+        );
+        assert_eq!(find(b"!99200\r\n12345678@@\r"), Found::Wait { drop: 0 });
+    }
+
+    #[test]
+    fn finder_looks_on_after_a_test_call_that_does_not_end() {
+        // Bytes 19 and 20 are LF CR; the '!' inside has a frame of document 01.
+        assert_eq!(find(b"x!99200001234567829\n\r"), Found::Nothing { drop: 21 });
+        let inside = b"x!992000012!45678@@\n\r\n";
+        assert_eq!(find(inside), Found::Frame { start: 11, length: 11, used: 22 });
+        assert_eq!(find(&inside[..21]), Found::Wait { drop: 11 });
+    }
+
+    #[test]
     fn test_six_asks_for_marks_and_length() {
         assert!(has_shape(b"!99208AB\r\n"));
         assert!(!has_shape(b""));
@@ -163,6 +238,18 @@ mod tests {
         assert!(!has_shape(&of_length(1_024)));
         // A pair inside is not this test's concern.
         assert!(has_shape(b"!99200\r\n01234567AB\r\n"));
+    }
+
+    #[test]
+    fn test_six_asks_for_twenty_bytes_of_a_test_call() {
+        for station in [b"99", b"9a", b"\r\n", b"20"] {
+            for length in SHORTEST_FRAME..=LONGEST_FRAME {
+                let of_id =
+                    |id: &[u8]| [b"!", &station[..], id, &vec![b'0'; length - 8], END].concat();
+                assert_eq!(has_shape(&of_id(b"200")), length == 20, "{length}");
+                assert!(has_shape(&of_id(b"201")), "{length}");
+            }
+        }
     }
 
     #[test]

@@ -53,9 +53,15 @@ enum Wrong {
     Tests10After4,
     TakesAShorterJournal,
     AdmitsFlagsFromFED5,
+    CutsATestCallAtItsFirstPair,
+    LooksOnlyAtTheFirstMark,
+    WaitsAtATestCallThatDoesNotEnd,
+    CountsFromTheSkippedMark,
+    TakesCrLfAsAStation,
+    AcceptsATestCallOf21Bytes,
 }
 
-const ALL: [Wrong; 23] = [
+const ALL: [Wrong; 29] = [
     Wrong::RefusesAll,
     Wrong::ConstantReply,
     Wrong::StoresNothing,
@@ -79,6 +85,12 @@ const ALL: [Wrong; 23] = [
     Wrong::Tests10After4,
     Wrong::TakesAShorterJournal,
     Wrong::AdmitsFlagsFromFED5,
+    Wrong::CutsATestCallAtItsFirstPair,
+    Wrong::LooksOnlyAtTheFirstMark,
+    Wrong::WaitsAtATestCallThatDoesNotEnd,
+    Wrong::CountsFromTheSkippedMark,
+    Wrong::TakesCrLfAsAStation,
+    Wrong::AcceptsATestCallOf21Bytes,
 ];
 
 /// The number in these digits of an accepted frame.
@@ -195,6 +207,47 @@ impl Wrong {
         }
     }
 
+    /// Finds something else than a sound board does; None leaves what that found.
+    fn find(self, received: &[u8], sound: Finding) -> Option<Finding> {
+        let frame =
+            |start: usize, length: usize| Finding { code: 0, start, length, drop: start + length };
+        let without = |code: u8, drop: usize| Finding { code, start: 0, length: 0, drop };
+        let pair_from = |at: usize| received[at..].windows(2).position(|pair| pair == b"\r\n");
+        let first = received.iter().position(|&byte| byte == b'!')?;
+        let after_a_skipped_one = match sound.code {
+            0 => sound.start > first,
+            1 => true,
+            2 => sound.drop > first,
+            _ => sound.drop > first + 1,
+        };
+        match self {
+            Wrong::FindsFramesOfAnyLength if sound.code == 3 => {
+                Some(frame(sound.drop - 1, pair_from(sound.drop)? + 3))
+            }
+            Wrong::DropsTheWholeOverlongRun if sound.code == 3 => {
+                Some(without(3, sound.drop + 1_022))
+            }
+            Wrong::CutsATestCallAtItsFirstPair if sound.code == 0 => {
+                Some(frame(sound.start, pair_from(sound.start)? + 2))
+            }
+            Wrong::LooksOnlyAtTheFirstMark if after_a_skipped_one => {
+                Some(without(1, received.len()))
+            }
+            Wrong::WaitsAtATestCallThatDoesNotEnd if after_a_skipped_one => Some(without(2, first)),
+            Wrong::CountsFromTheSkippedMark if after_a_skipped_one => {
+                Some(Finding { drop: sound.drop - first, ..sound })
+            }
+            Wrong::TakesCrLfAsAStation
+                if sound.length == 3 && received[sound.start + 3..].starts_with(b"200") =>
+            {
+                let mut other = received.to_vec();
+                other[sound.start + 1..sound.start + 3].copy_from_slice(b"99");
+                Some(SecondProgram.receive(&other))
+            }
+            _ => None,
+        }
+    }
+
     fn spoil_reply(self, frame: &[u8], outcome: &mut Outcome, reply: &mut [u8]) {
         let length = outcome.reply_length;
         match self {
@@ -208,6 +261,13 @@ impl Wrong {
                 reply[length - 4..length - 2].copy_from_slice(b"@@");
             }
             Wrong::GivesAnotherErrorNumber if outcome.number == 107 => outcome.number = 106,
+            Wrong::AcceptsATestCallOf21Bytes
+                if outcome.number == 6 && frame.len() == 21 && &frame[3..6] == b"200" =>
+            {
+                let text = closed([b"#", &frame[1..17]].concat());
+                reply[..21].copy_from_slice(&text);
+                *outcome = Outcome { number: 0, reply_length: 21 };
+            }
             _ => {}
         }
     }
@@ -239,18 +299,8 @@ fn lent(board: &mut Board) -> Areas<'_> {
 
 impl Calls for Wrong {
     fn receive(&self, received: &[u8]) -> Finding {
-        let mut finding = SecondProgram.receive(received);
-        if self.is(Wrong::FindsFramesOfAnyLength) && finding.code == 3 {
-            let pair = received.windows(2).skip(finding.drop).position(|pair| pair == b"\r\n");
-            if let Some(at) = pair {
-                let (start, end) = (finding.drop - 1, finding.drop + at + 2);
-                finding = Finding { code: 0, start, length: end - start, drop: end };
-            }
-        }
-        if self.is(Wrong::DropsTheWholeOverlongRun) && finding.code == 3 {
-            finding.drop += 1_022;
-        }
-        finding
+        let sound = SecondProgram.receive(received);
+        self.find(received, sound).unwrap_or(sound)
     }
 
     fn answer(

@@ -142,6 +142,50 @@ fn number_6_frames() {
     assert_eq!(with(&vec![b'!'; 100_000]), 6);
 }
 
+/// A 200H of `length` bytes with these station bytes and a true SC.
+fn test_call_of(length: usize, station: &str) -> Vec<u8> {
+    frame(&[b"!", station.as_bytes()].concat(), &["200", &"0".repeat(length - 10)].concat())
+}
+
+#[test]
+fn number_6_test_calls_of_another_length() {
+    for station in ["99", "98", "9G", "@@", "\r\n"] {
+        for length in (10..=1_023).filter(|&length| length != 20) {
+            let good = test_call_of(length, station);
+            assert_eq!(good.len(), length);
+            for sc in [&good[length - 4..length - 2], b"@@", b"00"] {
+                let frame = [&good[..length - 4], sc, b"\r\n"].concat();
+                let given = after(|call| call.frame = frame.clone());
+                assert_eq!(given, 6, "{length} bytes, station {station:?}, SC {sc:?}");
+            }
+        }
+    }
+    // Of 20 bytes it has the right shape, and the tests 7 and 8 look at it.
+    let with = |frame: Vec<u8>| {
+        let mut call = Call::good("208");
+        call.frame = frame;
+        call.make().number
+    };
+    assert_eq!(with(test_call_of(20, "99")), 0);
+    for station in ["98", "9G", "@@", "\r\n"] {
+        assert_eq!(with(test_call_of(20, station)), 8, "{station:?}");
+    }
+    assert_eq!(with(b"!992000000000000  \r\n".to_vec()), 7);
+    // Line ends among the bytes don't change the length that is asked for.
+    assert_eq!(with(frame(b"!99", "200\r\n\r\n\r\n\r\n\r\n")), 0);
+    assert_eq!(with(frame(b"!99", "200\r\n\r\n\r\n\r\n\r\n0")), 6);
+    assert_eq!(with(frame(b"!99", "200\r\n\r\n\r\n\r\n\r")), 6);
+}
+
+#[test]
+fn number_6_of_a_test_call_comes_before_7_and_8_and_after_5() {
+    let mut call = Call::good("208");
+    call.frame = b"!9820000000000000  \r\n".to_vec();
+    assert_eq!((call.frame.len(), call.refused()), (21, 6));
+    call.settings.fitted = 0;
+    assert_eq!(call.refused(), 5);
+}
+
 #[test]
 fn a_frame_of_1023_bytes_has_the_right_shape() {
     let frame = frame(b"!99", &"2".repeat(1_016));

@@ -36,7 +36,7 @@ use Rattle.link.proofs.Answering.{heard-answer, accepted}
 use Rattle.orders.proofs.Judging.{Judged, judged-so}
 use Rattle.demands.specs.History.{ours}
 use Rattle.demands.specs.Reading.{content, startOf, countOf, commandOf, Host, asking, Says}
-use Rattle.demands.proofs.Commands.{Heard, heard, messageNamed, message-of}
+use Rattle.demands.proofs.Commands.{testFits, Heard, heard, messageNamed, message-of}
 use Rattle.demands.proofs.Parts.{same-part}
 
 -- the order of a message over a content
@@ -113,30 +113,37 @@ module _ (a : Areas) (h : Sent) (frame : List ℕ) where
       ap₂ (λ (n : Named) (s : List ℕ). judged (heldIn (lengthsOf a)) (h .settings .fitted) n s) (message-of frame (take 3 asks) (d .message) ∙ e) (d .content)
       ∙ ordered (heldIn (lengthsOf a)) (h .settings .fitted) q (drop 3 asks) r
 
--- asked so, the board accepts and says what its order does
-pub says : (a : Areas) (asks said : List ℕ) (q : Message) → Open a → 3 ≤ length asks → length asks ≤ 1016 → messageNamed (take 3 asks) ≡ Known q
-    → ((fitted : ℕ) → Right (heldIn (lengthsOf a)) fitted q (drop 3 asks))
+-- asked so by a host that is heard, with a true SC or '@@', the board hears it and takes it as this order
+module _ (a : Areas) (asks : List ℕ) (q : Message) (p : Open a) (least : 3 ≤ length asks) (most : length asks ≤ 1016) (fits : testFits asks ≡ true)
+    (e : messageNamed (take 3 asks) ≡ Known q) (r : (fitted : ℕ) → Right (heldIn (lengthsOf a)) fitted q (drop 3 asks)) (h : Sent) (o : Host h) (b : Bool) where
+  abbrev frame : List ℕ
+  frame = commandOf b (h .settings .station) asks
+
+  pub is-heard : Heard (h .settings .station) asks frame
+  is-heard = heard b (h .settings .station) asks (o .station-byte) least most fits
+
+  pub again : silentOf (asking a h b asks) ≡ 0
+  again = heard-there a h frame asks o p is-heard
+
+  pub order : asked (asking a h b asks) ≡ orderOf q (drop 3 asks)
+  order = asked-there a h frame asks q is-heard e (r (h .settings .fitted))
+
+  pub accepts : answerOf (asking a h b asks) .number ≡ 0
+  accepts = ap (λ (x : Outcome). x .number) (heard-answer (asking a h b asks) again) ∙ ap numberGiven order
+
+-- so it accepts, and says what the order does
+pub says : (a : Areas) (asks said : List ℕ) (q : Message) → Open a → 3 ≤ length asks → length asks ≤ 1016 → testFits asks ≡ true
+    → messageNamed (take 3 asks) ≡ Known q → ((fitted : ℕ) → Right (heldIn (lengthsOf a)) fitted q (drop 3 asks))
     → ((h : Sent) (frame : List ℕ) → saidBy (q .does) (heldIn (lengthsOf a)) (sending a h frame .sent) q (startIn q (drop 3 asks)) (countIn q (drop 3 asks)) (areaIn (q .tag) a) ≡ said)
     → Says ours a asks said
-says a asks said q p least most e r t =
+says a asks said q p least most fits e r t =
     record {
-      number = λ h o b. ap (λ (x : Outcome). x .number) (heard-answer (asking a h b asks) (again h o b)) ∙ ap numberGiven (order h o b);
+      number = accepts a asks q p least most fits e r;
       text = λ h o b.
-          ap (λ (x : Outcome). x .text) (heard-answer (asking a h b asks) (again h o b)) ∙ ap (textOf (asking a h b asks)) (order h o b)
-          ∙ ap (replyOf normal (h .settings .station)) (t h (frame h b));
+          ap (λ (x : Outcome). x .text) (heard-answer (asking a h b asks) (again a asks q p least most fits e r h o b))
+          ∙ ap (textOf (asking a h b asks)) (order a asks q p least most fits e r h o b)
+          ∙ ap (replyOf normal (h .settings .station)) (t h (commandOf b (h .settings .station) asks));
     }
-  where
-    frame : Sent → Bool → List ℕ
-    frame h b = commandOf b (h .settings .station) asks
-
-    is : (h : Sent) → Host h → (b : Bool) → Heard (h .settings .station) asks (frame h b)
-    is h o b = heard b (h .settings .station) asks (o .station-byte) least most
-
-    again : (h : Sent) → Host h → (b : Bool) → silentOf (asking a h b asks) ≡ 0
-    again h o b = heard-there a h (frame h b) asks o p (is h o b)
-
-    order : (h : Sent) → Host h → (b : Bool) → asked (asking a h b asks) ≡ orderOf q (drop 3 asks)
-    order h o b = asked-there a h (frame h b) asks q (is h o b) e (r (h .settings .fitted))
 
 -- a message of any kind, and a query with the same fields and nothing behind them; the fields of what was sent to the one say the same to the other
 module _ (id id′ program start count tag : ℕ) (follows : Follows) (does does′ : Action) (repeats repeats′ : Bool) where

@@ -1,7 +1,7 @@
 -- 24EH, then 210H, and 24CH, then 20EH: the very digits that were sent; so for a run of any kind.
 use Prim.Native.Nat.{ℕ, _+_, _-_, _*_, _≤_, _<_, _^_}
 use mathlib.Core.Path.{_≡_, refl, sym, ap, ap₂, _∙_, subst}
-use mathlib.Core.Bool.{Bool, true}
+use mathlib.Core.Bool.{Bool, true, false}
 use mathlib.Core.List.{List, _++_, append-assoc}
 use native.Mathlib.Omega.{arith}
 use lib.ListN.{length, take, drop, length-take, length-drop, length-append, take-append-drop}
@@ -11,6 +11,7 @@ use Rattle.digits.specs.Digits.{byteOf, digitsOf, allDigits, numberOf}
 use Rattle.digits.specs.Text.{text}
 use Rattle.digits.proofs.Inverse.{inverse}
 use Rattle.digits.proofs.Bools.{was-not}
+use Rattle.frames.proofs.TestID.{is200}
 use Rattle.kinds.specs.declared.Kind.{Kind}
 use Rattle.kinds.specs.declared.Held.{Held}
 use Rattle.kinds.specs.Kinds.{Sound, columnsTag, integersTag, kindOf, heldIn, holds, runOf}
@@ -118,15 +119,16 @@ module _ (id id′ program start count tag : ℕ) (repeats : Bool) where
 pub record Query (name : List ℕ) (id tag : ℕ) : Type 0 where
   pub is-named : messageNamed name ≡ Known (row id 2 3 2 tag Nothing ReadRun true)
   pub is-written : digitsOf 3 id ≡ name
+  pub other : is200 name ≡ false
   pub narrow : (h : Held) → Sound h → kindOf h tag .first + kindOf h tag .held ≤ 4096
 
 pub of-columns : Query (text "210") 0x210 columnsTag
 unfolding byteOf
-of-columns = record { is-named = named .2; is-written = refl; narrow = λ h s. rw (kind-columns h) (omega arith) }
+of-columns = record { is-named = named .2; is-written = refl; other = refl; narrow = λ h s. rw (kind-columns h) (omega arith) }
 
 pub of-integers : Query (text "20E") 0x20E integersTag
 unfolding byteOf
-of-integers = record { is-named = named .3; is-written = refl; narrow = λ h s. rw (kind-integers h) (omega (arith, s .integers)) }
+of-integers = record { is-named = named .3; is-written = refl; other = refl; narrow = λ h s. rw (kind-integers h) (omega (arith, s .integers)) }
 
 module _ {name : List ℕ} {id tag : ℕ} (q : Query name id tag) where
   three : length name ≡ 3
@@ -146,7 +148,7 @@ module _ {name : List ℕ} {id tag : ℕ} (q : Query name id tag) where
       let m = row id 2 3 2 tag Nothing ReadRun true in
       let d : drop 3 (name ++ fields) ≡ fields = drop-at name fields 3 three in
       let n = length-append name fields in
-      says a (name ++ fields) said m o (omega (arith, n, three)) (omega (arith, n, three, l)) (ap messageNamed (take-at name fields 3 three) ∙ q .is-named)
+      says a (name ++ fields) said m o (omega (arith, n, three)) (omega (arith, n, three, l)) (rw (take-at name fields 3 three, q .other)) (ap messageNamed (take-at name fields 3 three) ∙ q .is-named)
       (λ fitted. subst (Right (heldIn (lengthsOf a)) fitted m) (sym d) (r fitted))
       (λ h frame.
       ap (λ (x : List ℕ). saidBy ReadRun (heldIn (lengthsOf a)) (sentOf frame (h .axes) (h .settings) (h .reply)) m (startIn m x) (countIn m x) (areaIn tag a)) d ∙ t h frame)

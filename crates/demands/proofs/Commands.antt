@@ -1,22 +1,23 @@
 -- A command's fields, and that it passes a frame's own tests.
 use Prim.Native.Nat.{ℕ, _+_, _-_, _≤_, _<_, _^_}
-use mathlib.Core.Path.{_≡_, refl, sym, ap, _∙_}
-use mathlib.Core.Bool.{Bool, true, false, cond}
+use mathlib.Core.Path.{_≡_, refl, sym, ap, ap₂, _∙_}
+use mathlib.Core.Bool.{Bool, true, false, cond, not, _||_}
 use mathlib.Core.List.{List, [], _∷_, _++_, append-assoc}
 use native.Mathlib.Omega.{arith}
 use lib.Dec.{eqb}
 use lib.ListN.{length, take, drop, getD, length-append, length-drop}
 use lib.Seq.{length-take-le, take-append-le, drop-append-le, take-at, drop-at, getD-at}
-use borrow.Author.Tests.{eqb-true, le-leb}
+use borrow.Author.Tests.{eqb-true, eqb-false, eq-eqb, ne-eqb, le-leb}
 use Rattle.digits.specs.Digits.{isDigit, worthOf, digitsOf, allDigits, numberOf}
 use Rattle.digits.specs.Text.{text}
 use Rattle.digits.proofs.Inverse.{inverse, and-left, and-right}
-use Rattle.frames.specs.Frame.{CR, LF, stationIn, messageIn, contentIn, scIn, scOf, shaped, sumTrue, sumOff, sumPasses, stationPasses}
+use Rattle.frames.specs.Frame.{CR, LF, stationIn, messageIn, contentIn, scIn, scOf, testCallFits, shaped, sumTrue, sumOff, sumPasses, stationPasses}
 use Rattle.frames.proofs.Bools.{or-true}
 use Rattle.frames.proofs.Promised.{closed-true, says-digits}
+use Rattle.frames.proofs.TestID.{is200, by-message}
 use Rattle.kinds.specs.Kinds.{pointsTag, columnsTag, integersTag, flagsTag}
-use Rattle.table.specs.declared.Follows.the-variants.{Nothing, Points, RunBytes, ChangeType}
-use Rattle.table.specs.declared.Action.the-variants.{CountPoints, ListPoints, ReadRun, WritePoints, ClearRun, ChangeRun, ShowFlags, SetFlag}
+use Rattle.table.specs.declared.Follows.the-variants.{Nothing, TenBytes, Points, RunBytes, ChangeType}
+use Rattle.table.specs.declared.Action.the-variants.{SayBack, CountPoints, ListPoints, ReadRun, WritePoints, ClearRun, ChangeRun, ShowFlags, SetFlag}
 use Rattle.table.specs.declared.Message.{Message}
 use Rattle.table.specs.declared.Named.{Named}
 use Rattle.table.specs.declared.Named.the-variants.{Known, Unknown}
@@ -24,21 +25,33 @@ use Rattle.table.specs.Table.{row, messageNumbered, messageOf}
 use Rattle.messages.proofs.Shapes.{in-frame}
 use Rattle.demands.specs.Reading.{before, commandOf}
 
+-- what is said with '200' before it has thirteen bytes, so that its frame has 20 (02, c)
+abbrev pub testFits : List ℕ → Bool
+testFits said = not (is200 (take 3 said)) || eqb (length said) 13
+
+-- so much more on both sides
+eqb-more : (k n m : ℕ) {l : ℕ} → l ≡ n + k → eqb l (m + k) ≡ eqb n m
+eqb-more k n m {l} h = go (eqb n m) refl
+  where
+    go : (b : Bool) → eqb n m ≡ b → eqb l (m + k) ≡ b
+    go true e = let q = eqb-true n m e in eq-eqb l (m + k) (omega arith)
+    go false e = ne-eqb l (m + k) (λ q. eqb-false n m e (omega (arith, q)))
+
 -- a frame with any two bytes as its SC
-abbrev framed : ℕ → List ℕ → List ℕ → List ℕ
+abbrev pub framed : ℕ → List ℕ → List ℕ → List ℕ
 framed station said sc = before station said ++ (sc ++ (CR ∷ LF ∷ []))
 
 module _ (station : ℕ) (said sc : List ℕ) (two : length sc ≡ 2) where
   -- it is seven bytes longer than what it says
-  framed-long : length (framed station said sc) ≡ length said + 7
+  pub framed-long : length (framed station said sc) ≡ length said + 7
   framed-long = simp length-append (omega arith)
 
   -- CR LF ends it
-  ends : framed station said sc ≡ (before station said ++ sc) ++ (CR ∷ LF ∷ [])
+  pub ends : framed station said sc ≡ (before station said ++ sc) ++ (CR ∷ LF ∷ [])
   ends = sym (append-assoc (before station said) sc (CR ∷ LF ∷ []))
 
   -- what stands before CR
-  before-long : length (before station said ++ sc) ≡ length said + 5
+  pub before-long : length (before station said ++ sc) ≡ length said + 5
   before-long = simp length-append (omega arith)
 
   -- its last byte but one
@@ -54,16 +67,20 @@ module _ (station : ℕ) (said sc : List ℕ) (two : length sc ≡ 2) where
       ∙ getD-at ((before station said ++ sc) ++ (CR ∷ [])) LF [] 0 (length (framed station said sc) - 1) (simp length-append (omega (arith, before-long, framed-long)))
 
   module _ (least : 3 ≤ length said) where
-    -- test 6: '!' first, CR LF last, 10 to 1,023 bytes
-    is-shaped : length said ≤ 1016 → shaped (framed station said sc) ≡ true
-    unfolding shaped
-    is-shaped most =
-        let l = framed-long in
-        rw (is-CR, is-LF, le-leb 10 (length (framed station said sc)) (omega arith), le-leb (length (framed station said sc)) 1023 (omega arith))
-
     -- its ID is the first three bytes of what it says
-    is-message : messageIn (framed station said sc) ≡ take 3 said
+    pub is-message : messageIn (framed station said sc) ≡ take 3 said
     is-message = take-append-le 3 said (sc ++ (CR ∷ LF ∷ [])) least
+
+    -- test 6: '!' first, CR LF last, 10 to 1,023 bytes, a test call of 20 (02, c)
+    test-fits : testFits said ≡ true → testCallFits (framed station said sc) ≡ true
+    test-fits fits =
+        ap₂ (λ (t n : Bool). not t || n) (by-message (framed station said sc) (take 3 said) is-message) (eqb-more 7 (length said) 13 framed-long) ∙ fits
+
+    is-shaped : length said ≤ 1016 → testFits said ≡ true → shaped (framed station said sc) ≡ true
+    unfolding shaped
+    is-shaped most fits =
+        let l = framed-long in
+        rw (is-CR, is-LF, le-leb 10 (length (framed station said sc)) (omega arith), le-leb (length (framed station said sc)) 1023 (omega arith)) (test-fits fits)
 
     -- its content is the rest
     is-content : contentIn (framed station said sc) ≡ drop 3 said
@@ -102,11 +119,11 @@ summed true station said = rw (closed-true (before station said))
 summed false station said = rw (off station said) (or-true (sumTrue (framed station said (text "@@"))))
 
 -- whatever its SC, if it passes
-heard-with : (station : ℕ) (said sc : List ℕ) → length sc ≡ 2 → sumPasses (framed station said sc) ≡ true → station < 256 → 3 ≤ length said → length said ≤ 1016
+heard-with : (station : ℕ) (said sc : List ℕ) → length sc ≡ 2 → sumPasses (framed station said sc) ≡ true → station < 256 → 3 ≤ length said → length said ≤ 1016 → testFits said ≡ true
     → Heard station said (framed station said sc)
-heard-with station said sc two sum byte least most =
+heard-with station said sc two sum byte least most fits =
     record {
-      has-shape = is-shaped station said sc two least most;
+      has-shape = is-shaped station said sc two least most fits;
       has-sum = sum;
       has-station = ours station said sc byte;
       message = is-message station said sc two least;
@@ -114,7 +131,8 @@ heard-with station said sc two sum byte least most =
     }
 
 -- a command is heard, with a true SC and with '@@'
-pub heard : (checked : Bool) (station : ℕ) (said : List ℕ) → station < 256 → 3 ≤ length said → length said ≤ 1016 → Heard station said (commandOf checked station said)
+pub heard : (checked : Bool) (station : ℕ) (said : List ℕ) → station < 256 → 3 ≤ length said → length said ≤ 1016 → testFits said ≡ true
+    → Heard station said (commandOf checked station said)
 heard true station said = heard-with station said (scOf (before station said)) refl (summed true station said)
 heard false station said = heard-with station said (text "@@") refl (summed false station said)
 
@@ -157,6 +175,10 @@ changingIntegers = row 0x24C 2 3 2 integersTag RunBytes ChangeRun true
 abbrev pub showing : Message
 showing = row 0x20D 2 4 4 flagsTag Nothing ShowFlags true
 
+-- 200H
+abbrev pub testing : Message
+testing = row 0x200 0 0 0 0 TenBytes SayBack false
+
 abbrev pub setting : Message
 setting = row 0x24B 2 4 0 flagsTag ChangeType SetFlag false
 
@@ -183,8 +205,8 @@ pub message-of : (frame id : List ℕ) → messageIn frame ≡ id → messageOf 
 unfolding messageOf
 message-of frame id e = rw e
 
--- 208H, 209H, 210H, 20EH and 20DH are known
+-- 208H, 209H, 210H, 20EH, 20DH and 200H are known
 pub named : (messageNamed (text "208") ≡ Known counting) × (messageNamed (text "209") ≡ Known listing) × (messageNamed (text "210") ≡ Known reading)
-    × (messageNamed (text "20E") ≡ Known readingIntegers) × (messageNamed (text "20D") ≡ Known showing)
+    × (messageNamed (text "20E") ≡ Known readingIntegers) × (messageNamed (text "20D") ≡ Known showing) × (messageNamed (text "200") ≡ Known testing)
 unfolding isDigit worthOf messageNumbered
-named = (refl, refl, refl, refl, refl)
+named = (refl, refl, refl, refl, refl, refl)

@@ -5,6 +5,7 @@ use Rattle.demands.proofs.Replied.{every-reply, normal-reply, test-call
 use Rattle.demands.proofs.Lengths.{reply-fits}
 use Rattle.demands.proofs.Histories.{every-history}
 use Rattle.demands.proofs.Survived.{every-digit-survives, heard-again}
+use Rattle.demands.proofs.TestCalls.{test-calls}
 
 pub demands : Demands
 demands =
@@ -26,6 +27,7 @@ demands =
             test-call-back = test-call-back;
             every-digit-survives = every-digit-survives;
             heard-again = heard-again;
+            test-calls = test-calls;
           };
       demand3 = every-history;
     }

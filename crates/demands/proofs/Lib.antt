@@ -19,4 +19,5 @@ pub mod Slots
 pub mod Listed
 pub mod Lasting
 pub mod Survived
+pub mod TestCalls
 pub mod Demands

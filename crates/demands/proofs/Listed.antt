@@ -41,7 +41,7 @@ list-said : (a : Areas) (s : List ℕ) (ls : List (List ℕ)) → Open a → ((f
     → listed 1011 (countIn listing s) (startIn listing s) (drop ((startIn listing s - 1) * 40) (a .points)) ≡ ls → Says ours a (text "209" ++ s) (lists ls)
 unfolding byteOf
 list-said a s ls o r h e =
-    says a (text "209" ++ s) (lists ls) listing o (omega arith) (omega arith) (named .1) r (λ x frame. ap lists e)
+    says a (text "209" ++ s) (lists ls) listing o (omega arith) (omega arith) refl (named .1) r (λ x frame. ap lists e)
 
 -- what is told of all that is held
 module _ (a : Areas) (o : Open a) where
@@ -52,7 +52,7 @@ module _ (a : Areas) (o : Open a) where
   counted : Says ours a (text "208") (text "208" ++ digitsOf 3 (effectiveOf a))
   unfolding byteOf
   counted =
-      says a (text "208") (text "208" ++ digitsOf 3 (effectiveOf a)) counting o (omega arith) (omega arith) (named .0)
+      says a (text "208") (text "208" ++ digitsOf 3 (effectiveOf a)) counting o (omega arith) (omega arith) refl (named .0)
       (λ fitted. record { digits = refl; long = refl; program = refl; some = refl; held-all = refl; pattern = refl; type = refl })
       (λ x frame. refl)
 

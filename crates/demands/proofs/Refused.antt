@@ -68,7 +68,7 @@ number-given P [] z h = z
 number-given P (r ∷ rs) z h = either P (r .holds) (λ _. h .0) (λ _. number-given P rs z (h .1))
 
 -- the numbers of a frame: to 10 without a reply, and from 101 on
-silent-low : (c : Call) → silentOf c ≤ 10
+pub silent-low : (c : Call) → silentOf c ≤ 10
 unfolding silentOf silentRows areaRows frameRows
 silent-low c =
     number-given (λ (k : ℕ). k ≤ 10) (silent c) (omega arith)

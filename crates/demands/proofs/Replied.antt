@@ -6,17 +6,15 @@ use mathlib.Core.List.{List, [], _++_}
 use native.Mathlib.Omega.{arith}
 use lib.ListN.{getD}
 use borrow.Author.Tests.{ne-eqb}
-use Rattle.digits.specs.Digits.{isDigit, worthOf, byteOf}
+use Rattle.digits.specs.Digits.{byteOf}
 use Rattle.digits.specs.Text.{text}
 use Rattle.frames.specs.Frame.{normal, threeOf, messageIn, contentIn, replyOf}
 use Rattle.frames.proofs.Promised.{reply}
-use Rattle.table.specs.declared.Follows.the-variants.{TenBytes}
-use Rattle.table.specs.declared.Action.the-variants.{SayBack}
 use Rattle.table.specs.declared.Message.{Message}
 use Rattle.table.specs.declared.Named.the-variants.{Known}
 use Rattle.messages.specs.declared.Asked.{Asked}
 use Rattle.messages.specs.declared.Asked.the-variants.{Refused, Order}
-use Rattle.table.specs.Table.{row, messageNumbered, messageOf}
+use Rattle.table.specs.Table.{messageOf}
 use Rattle.messages.specs.Asked.{askedOf, numberGiven}
 use Rattle.messages.proofs.Judged.{refused-some, told}
 use Rattle.calls.specs.Calls.{Call, Outcome}
@@ -24,6 +22,7 @@ use Rattle.link.specs.Answer.{held, asked, textOf, answerOf}
 use Rattle.link.proofs.Answering.{accepted, heard-answer}
 use Rattle.demands.specs.Replied.{headerOf, Framed, EveryReply, NormalReply, TestCallBack}
 use Rattle.demands.proofs.Refused.{answer-either}
+use Rattle.demands.proofs.Commands.{testing, message-of, named}
 
 -- what is asked is answered by a reply: no refusal has number 0
 asked-framed : (c : Call) (a : Asked) → (a ≡ Refused 0 → ⊥) → Framed (numberGiven a) (c .sent .settings .station) (textOf c a)
@@ -54,21 +53,13 @@ normal-reply =
       starts = λ c n. let f = normal-framed c n in ap (λ (t : List ℕ). getD t 0 0) (f .is) ∙ f .law .starts;
     }
 
--- 200H is the table's first row
-abbrev testCall : Message
-testCall = row 0x200 0 0 0 0 TenBytes SayBack false
-
-is-test : (frame : List ℕ) → messageIn frame ≡ text "200" → messageOf frame ≡ Known testCall
-unfolding messageOf messageNumbered isDigit worthOf
-is-test frame e = rw e
-
-row-of : (c : Call) (m : Message) (start count : ℕ) → messageOf (c .sent .frame) ≡ Known testCall → asked c ≡ Order m start count → testCall ≡ m
+test-row : (c : Call) (m : Message) (start count : ℕ) → messageOf (c .sent .frame) ≡ Known testing → asked c ≡ Order m start count → testing ≡ m
 unfolding askedOf
-row-of c m start count e q =
+test-row c m start count e q =
     let t = told (held c) (c .sent .settings .fitted) (messageOf (c .sent .frame)) (contentIn (c .sent .frame)) m start count q .message in
     cc
 
-said-back : (c : Call) (m : Message) (start count : ℕ) → testCall ≡ m
+said-back : (c : Call) (m : Message) (start count : ℕ) → testing ≡ m
     → textOf c (Order m start count) ≡ replyOf normal (c .sent .settings .station) (text "200" ++ contentIn (c .sent .frame))
 unfolding byteOf
 said-back c m start count e = rw (← e)
@@ -77,5 +68,5 @@ pub test-call-back : TestCallBack
 test-call-back c e n =
     let a = accepted c n in
     ap (λ (o : Outcome). o .text) (heard-answer c (a .heard)) ∙ ap (textOf c) (a .order)
-    ∙ said-back c (a .message) (a .start) (a .count) (row-of c (a .message) (a .start) (a .count) (is-test (c .sent .frame) e) (a .order))
+    ∙ said-back c (a .message) (a .start) (a .count) (test-row c (a .message) (a .start) (a .count) (message-of (c .sent .frame) (text "200") e ∙ named .5) (a .order))
     ∙ rw e

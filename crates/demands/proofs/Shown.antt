@@ -43,6 +43,7 @@ shows-any a o start count some all =
     let g : count < 16 ^ 4 = omega (arith, n, x) in
     says a (asksFlags start count) (asksFlags start count ++ digitsIn (eights 0 (runOf (kindIn flagsTag a) start count (a .flags)))) showing o (omega arith)
     (simp length-append (omega (arith, inverse 4 .as-many start, inverse 4 .as-many count)))
+    refl
     (named .4)
     (asks-right 0x20D 2 4 4 flagsTag ShowFlags true start count f g (omega arith) h some all)
     (λ _ frame.

@@ -3,6 +3,7 @@ use Rattle.demands.specs.Refused.{OneNumber, NoOtherNumber, ChangesNothi
 use Rattle.demands.specs.Replied.{EveryReply, NormalReply, ReplyFits, TestCallBack}
 use Rattle.demands.specs.History.{ours, EveryHistory}
 use Rattle.demands.specs.Survive.{HeardAgain, EveryDigitSurvives}
+use Rattle.demands.specs.TestCalls.{TestCalls}
 
 -- "A frame that is refused changes no point, no column and nothing in the journal, and a refusal has one number and one fixed reply, or none."; no
 -- integer and no flag either (02, a)
@@ -22,6 +23,8 @@ pub record Demand2 : Type 0 where
   pub test-call-back : TestCallBack
   pub every-digit-survives : EveryDigitSurvives ours
   pub heard-again : HeardAgain
+  -- "Demand 2 reads so from here" (02, c)
+  pub test-calls : TestCalls
 
 -- "After any sequence of frames and steps back, points and columns are exactly what the accepted writes not taken back would leave"; "all four kinds"
 -- (02, a)

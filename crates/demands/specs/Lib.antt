@@ -4,4 +4,5 @@ pub mod Replied
 pub mod History
 pub mod Reading
 pub mod Survive
+pub mod TestCalls
 pub mod Demands

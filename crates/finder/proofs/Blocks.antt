@@ -1,4 +1,4 @@
--- Looking for a byte block by block, and for CR LF from CR to CR.
+-- Looking for a byte block by block.
 use Prim.Native.Nat.{ℕ, zero, suc, _+_, _-_, _≤_, _<_, compare·suc-suc}
 use mathlib.Core.Path.{_≡_, refl, sym, ap, _∙_}
 use mathlib.Core.Bool.{Bool, true, false, cond, _||_}
@@ -54,33 +54,3 @@ block-passed b k at s h inv e =
     let q = passed-by b k (drop at s) (simp length-drop (omega arith)) (ltb-false _ _ (rw (add-sub-cancel-left at k) at e)) in
     let r = rw (drop-drop k at s) at q in
     omega arith
-
--- the place is the length at most
-place-within : (b : ℕ) (s : List ℕ) → placeOf b s ≤ length s
-place-within b [] = omega arith
-place-within b (x ∷ s) = go (eqb x b) (place-within b s)
-  where
-    go : (t : Bool) → placeOf b s ≤ length s → cond t 0 (suc (placeOf b s)) ≤ suc (length s)
-    go true ih = omega arith
-    go false ih = omega arith
-
--- no pair begins before the first CR
-pair-from : (s : List ℕ) → placeOf CR s + pairOf (drop (placeOf CR s) s) ≡ pairOf s
-pair-from [] = refl
-pair-from (x ∷ s) = go (eqb x CR) refl s (pair-from s)
-  where
-    go : (t : Bool) → eqb x CR ≡ t → (s : List ℕ) → placeOf CR s + pairOf (drop (placeOf CR s) s) ≡ pairOf s
-        → cond t 0 (suc (placeOf CR s)) + pairOf (drop (cond t 0 (suc (placeOf CR s))) (x ∷ s)) ≡ pairOf (x ∷ s)
-    go true e s ih = zero-add _
-    go false e [] ih = omega arith
-    go false e (y ∷ s) ih = rw e (omega arith)
-
--- from a place on, up to the next CR
-pub up-to-CR : (s : List ℕ) (at r : ℕ) → at ≤ length s → r ≡ placeOf CR (take (length s - at) (drop at s)) → at + pairOf (drop at s) ≡ pairOf s
-    → (at + r ≤ length s) × ((at + r) + pairOf (drop (at + r) s) ≡ pairOf s)
-up-to-CR s at r h e inv =
-    let t : take (length s - at) (drop at s) ≡ drop at s = take-all (length s - at) (drop at s) (simp length-drop (omega arith)) in
-    let f : r ≡ placeOf CR (drop at s) = rw t at e in
-    let w = simp length-drop at (place-within CR (drop at s)) in
-    let q = rw (← f, drop-drop r at s) at (pair-from (drop at s)) in
-    (omega arith, omega arith)

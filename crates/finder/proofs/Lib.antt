@@ -1,5 +1,7 @@
 pub mod Turns
 pub mod Blocks
+pub mod Search
+pub mod TestCalls
 pub mod Parts
 pub mod Finding
 pub mod Promised

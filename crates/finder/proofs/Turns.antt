@@ -12,11 +12,8 @@ use borrow.Author.Tests.{eq-eqb, ne-eqb}
 use Rattle.frames.specs.Frame.{CR, LF}
 use Rattle.finder.specs.Find.{placeOf, pairFirst, pairOf}
 
--- a pair at the front, by its bytes
-step : (l : List ℕ) (x : ℕ) (t : List ℕ) → l ≡ x ∷ t → pairOf l ≡ cond (pairFirst l) 0 (suc (pairOf t))
-step l x t e = rw e
-
-not-CR : (x : ℕ) (t : List ℕ) → (x ≡ CR → ⊥) → pairFirst (x ∷ t) ≡ false
+-- no pair at the front without CR
+pub not-CR : (x : ℕ) (t : List ℕ) → (x ≡ CR → ⊥) → pairFirst (x ∷ t) ≡ false
 not-CR x [] n = refl
 not-CR x (y ∷ t) n = rw (ne-eqb x CR n)
 
@@ -26,12 +23,6 @@ module _ (s : List ℕ) (i : ℕ) (h : i < length s) where
 
   pub place-next : (b : ℕ) → (getD s i 0 ≡ b → ⊥) → placeOf b (drop i s) ≡ suc (placeOf b (drop (i + 1) s))
   place-next b e = rw (add-one, drop-cons s i 0 h, ne-eqb _ _ e)
-
-  pub pair-here : pairFirst (drop i s) ≡ true → pairOf (drop i s) ≡ 0
-  pair-here e = step (drop i s) _ _ (drop-cons s i 0 h) ∙ rw e
-
-  pub pair-next : pairFirst (drop i s) ≡ false → pairOf (drop i s) ≡ suc (pairOf (drop (i + 1) s))
-  pair-next e = step (drop i s) _ _ (drop-cons s i 0 h) ∙ rw (e, add-one)
 
 -- whether CR LF stands at a place, by its two bytes
 module _ (s : List ℕ) (i : ℕ) (h : i < length s) where
@@ -47,6 +38,3 @@ module _ (s : List ℕ) (i : ℕ) (h : i < length s) where
 module _ (s : List ℕ) (i : ℕ) (h : length s ≤ i) where
   pub place-done : (b : ℕ) → placeOf b (drop i s) ≡ 0
   place-done b = rw (drop-of-length-le s h)
-
-  pub pair-done : pairOf (drop i s) ≡ 0
-  pair-done = rw (drop-of-length-le s h)

@@ -1,12 +1,12 @@
--- Document 01, "Finding a frame in the received bytes".
+-- Document 01, "Finding a frame in the received bytes", and document 02, request c.
 use Prim.Native.Nat.{ℕ, suc, _+_, _-_}
 use mathlib.Core.Bool.{Bool, false, cond, not, _&&_}
 use mathlib.Core.List.{List, [], _∷_}
 use lib.ListN.{length, take, drop}
-use lib.Dec.{ltb, eqb}
+use lib.Dec.{ltb, leb, eqb}
 use Rattle.finder.specs.declared.Found.{Found}
 use Rattle.finder.specs.declared.Found.the-variants.{Frame, Nothing, Wait, TooLong}
-use Rattle.frames.specs.Frame.{command, CR, LF}
+use Rattle.frames.specs.Frame.{command, CR, LF, isTestID}
 
 -- where a byte first stands, or the length with none
 abbrev pub placeOf : ℕ → List ℕ → ℕ
@@ -24,22 +24,44 @@ abbrev pub pairOf : List ℕ → ℕ
 pairOf [] = 0
 pairOf (x ∷ s) = cond (pairFirst (x ∷ s)) 0 (suc (pairOf s))
 
--- "Skip to the first '!' (21H)."
+-- a test call begins so: "after '!', two bytes that aren't CR LF, and '200'" (02, c)
+abbrev pub beginsTestCall : List ℕ → Bool
+beginsTestCall bytes = not (pairFirst (drop 1 bytes)) && isTestID bytes
+
+-- "the frame is 20 bytes long, and CR LF must be its last two [..] where its last two aren't CR LF, the '!' is skipped" (02, c)
+abbrev pub skipped : List ℕ → Bool
+skipped bytes = beginsTestCall bytes && (leb 20 (length bytes) && not (pairFirst (drop 18 bytes)))
+
+-- "Skip to the first '!' (21H)" that isn't skipped: "the same call looks on from the byte after it" (02, c)
 abbrev pub skipOf : List ℕ → ℕ
-skipOf received = placeOf command received
+skipOf [] = 0
+skipOf (x ∷ s) = cond (eqb x command && not (skipped (x ∷ s))) 0 (suc (skipOf s))
 
--- "look at the bytes from it on, at most 1,023"
+-- "the bytes from it on"
+abbrev pub fromIt : List ℕ → List ℕ
+fromIt received = drop (skipOf received) received
+
+-- "the bytes from it on, at most 1,023"
 abbrev pub windowOf : List ℕ → List ℕ
-windowOf received = take 1023 (drop (skipOf received) received)
+windowOf received = take 1023 (fromIt received)
 
--- "With none, drop everything. [..] If CR LF (0DH 0AH) stands there, the first such pair ends the frame; [..] if 1,023 bytes are there,
+-- "With fewer than 20 bytes there, wait" (02, c), "and drop what stood before it"
+abbrev pub byLength : ℕ → List ℕ → Found
+byLength before bytes = cond (ltb (length bytes) 20) (Wait before) (Frame before (before + 20))
+
+-- "If CR LF (0DH 0AH) stands there, the first such pair ends the frame; [..] if 1,023 bytes are there,
 -- answer "too long" and drop up to and with that '!'; otherwise answer "wait" and drop what stood before it."
+abbrev pub byPair : ℕ → List ℕ → Found
+byPair before window =
+    cond (ltb (pairOf window) (length window))
+    (Frame before (before + (pairOf window + 2)))
+    (cond (eqb (length window) 1023) (TooLong (before + 1)) (Wait before))
+
+-- "With none, drop everything."; a test call ends by its length (02, c), any other frame by its pair
 unfoldable pub findIn : List ℕ → Found
 findIn received =
     cond (not (ltb (skipOf received) (length received))) (Nothing (length received))
-    (cond (ltb (pairOf (windowOf received)) (length (windowOf received)))
-    (Frame (skipOf received) (skipOf received + (pairOf (windowOf received) + 2)))
-    (cond (eqb (length (windowOf received)) 1023) (TooLong (skipOf received + 1)) (Wait (skipOf received))))
+    (cond (beginsTestCall (fromIt received)) (byLength (skipOf received) (fromIt received)) (byPair (skipOf received) (windowOf received)))
 
 -- The values of each case. "how many bytes are used up to its end", or dropped
 abbrev pub dropOf : Found → ℕ

@@ -1,9 +1,10 @@
-// Finding a frame in the received bytes (document 01, "Finding a frame in the received bytes").
+// Finding a frame in the received bytes (document 01, "Finding a frame in the received bytes"; document 02, c).
+use frames::checks::is_test_id;
 ghost use mathlib.Core.Path.{_≡_};
 ghost use Prim.Native.Nat.{_+_, _-_, _≤_, _<_};
 ghost use lib.ListN.{length, take, drop};
 ghost use lib.Dec.{ltb};
-ghost use Rattle.finder.specs.Find.{placeOf, pairFirst, pairOf, findIn, partOf};
+ghost use Rattle.finder.specs.Find.{placeOf, pairFirst, pairOf, beginsTestCall, skipped, skipOf, findIn, partOf};
 
 // What the received bytes hold, and how many of them are used up or dropped.
 pub enum Found {
@@ -15,6 +16,9 @@ pub enum Found {
 
 // The bytes of a block: four of the processor's vectors of 16, and one branch behind them.
 const BLOCK: usize = 64;
+
+// The bytes behind a skipped '!' that are looked at one by one: the next '!' is often near, and a block costs more than they do.
+const NEAR: usize = 20;
 
 // Whether a byte stands in a block: to the end in any case, so that the compiler looks at many bytes at once.
 fn has(block: &[u8], b: u8) -> bool
@@ -92,6 +96,62 @@ fn pair(s: &[u8]) -> usize
     n
 }
 
+// A test call begins so: '200' behind two bytes that aren't CR LF.
+fn begins_test_call(bytes: &[u8]) -> bool
+    ensures { λ r. ⌜ r ≡ beginsTestCall (now (bytes .entry)) ⌝ }
+{
+    if !is_test_id(bytes) {
+        return false;
+    }
+    !pair_at(bytes, 1)
+}
+
+// Its '!' is skipped: 20 bytes are there, and CR LF aren't the last two.
+fn is_skipped(bytes: &[u8]) -> bool
+    ensures { λ r. ⌜ r ≡ skipped (now (bytes .entry)) ⌝ }
+{
+    if bytes.len() < 20 {
+        return false;
+    }
+    if !begins_test_call(bytes) {
+        return false;
+    }
+    !pair_at(bytes, 18)
+}
+
+// Where a byte first stands, or the length: the first bytes one by one, then by blocks.
+fn near(s: &[u8], b: u8) -> usize
+    ensures { λ r. ⌜ r ≡ placeOf b (now (s .entry)) ⌝ }
+{
+    let mut i = 0;
+    while i < NEAR {
+        if i >= s.len() {
+            return i;
+        }
+        if s[i] == b {
+            return i;
+        }
+        i += 1;
+    }
+    i + place(&s[i..], b)
+}
+
+// Where a '!' first stands that isn't skipped, or the length: from '!' to '!'.
+fn first(s: &[u8]) -> usize
+    ensures { λ r. ⌜ r ≡ skipOf (now (s .entry)) ⌝ }
+{
+    let n = s.len();
+    let mut bang = place(s, 0x21);
+    while bang < n {
+        if !is_skipped(&s[bang..]) {
+            return bang;
+        }
+        bang += 1;
+        bang += near(&s[bang..], 0x21);
+    }
+    n
+}
+
 // The first 1,023 bytes at most.
 fn window(s: &[u8]) -> &[u8]
     ensures { λ r. ⌜ now r ≡ take 1023 (now (s .entry)) ⌝ }
@@ -106,13 +166,23 @@ fn window(s: &[u8]) -> &[u8]
 pub fn find(received: &[u8]) -> Found
     ensures { λ r. ⌜ r ≡ findIn (now (received .entry)) ⌝ }
 {
-    let start = place(received, 0x21);
+    let start = first(received);
     if start >= received.len() {
         return Found::Nothing {
             drop: received.len(),
         };
     }
-    let seen = window(&received[start..]);
+    let bytes = &received[start..];
+    if begins_test_call(bytes) {
+        if bytes.len() < 20 {
+            return Found::Wait { drop: start };
+        }
+        return Found::Frame {
+            start,
+            used: start + 20,
+        };
+    }
+    let seen = window(bytes);
     let n = pair(seen);
     if n < seen.len() {
         return Found::Frame {

@@ -2,4 +2,5 @@ pub mod Turns
 pub mod Bools
 pub mod Closing
 pub mod Promised
+pub mod TestID
 pub mod Worked

@@ -2,7 +2,7 @@
 use mathlib.Core.Path.{_≡_}
 use mathlib.Core.Bool.{true, false}
 use Rattle.digits.specs.Text.{text}
-use Rattle.frames.specs.Frame.{normal, sumOf, scOf, shaped, sumPasses, stationPasses, replyOf, errorOf}
+use Rattle.frames.specs.Frame.{normal, sumOf, scOf, isTestID, shaped, sumPasses, stationPasses, replyOf, errorOf}
 
 pub record Cases : Type 0 where
   -- Proved cases, 1; 000, section 3: "Total sum [..] = 254H", "The checksum is calculated as '54.'"
@@ -18,6 +18,11 @@ pub record Cases : Type 0 where
   pub small : sumPasses (text "!992090010295a\r\n") ≡ false
   -- Bench listing: the frames are shaped and for station 99H; the error reply to the third
   pub bench : shaped (text "!99200001234567829\r\n") ≡ true
+  -- 02, c: 200H frames of 19, 20 and 21 bytes, whatever stands for the station; another message's length isn't test 6's
+  pub test-calls :
+      (shaped (text "!99200123456789@@\r\n") ≡ false) × (shaped (text "!99200\r\n\r\n!99200@@\r\n") ≡ true) × (shaped (text "!\r\n2000123456789012\r\n") ≡ false)
+  pub other : shaped (text "!99201123456789@@\r\n") ≡ true
+  pub id-cut : (isTestID (text "!9920") ≡ false) × (isTestID (text "!99200") ≡ true)
   pub ours : stationPasses 0x99 (text "!99200001234567829\r\n") ≡ true
   pub not-ours : stationPasses 0x99 (text "!9A200001234567829\r\n") ≡ false
   pub unknown : errorOf 0x99 101 ≡ text "&991012A\r\n"

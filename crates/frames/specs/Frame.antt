@@ -1,6 +1,6 @@
--- Document 01, "Frame", and the tests 6, 7 and 8 of its refusal table; source document 000, sections 3 and 4-3-1.
+-- Document 01, "Frame", and the tests 6, 7 and 8 of its refusal table, with document 02, request c; source document 000, sections 3 and 4-3-1.
 use Prim.Native.Nat.{ℕ, _+_, _-_, _/_, _%_}
-use mathlib.Core.Bool.{Bool, _&&_, _||_}
+use mathlib.Core.Bool.{Bool, not, _&&_, _||_}
 use mathlib.Core.List.{List, [], _∷_, _++_}
 use lib.ListN.{length, take, drop, getD}
 use lib.Dec.{leb, eqb}
@@ -51,13 +51,22 @@ lowByte before = sumOf before % 256
 abbrev pub scOf : List ℕ → List ℕ
 scOf before = digitsOf 2 (lowByte before)
 
--- Test 6, passed: "'!' first, CR LF last, 10 to 1,023 bytes"
+-- a test call, by its ID: "'200'" (02, c)
+unfoldable pub isTestID : List ℕ → Bool
+isTestID frame =
+    eqb (getD (messageIn frame) 0 0) 0x32 && (eqb (getD (messageIn frame) 1 0) 0x30 && eqb (getD (messageIn frame) 2 0) 0x30)
+
+-- not "a 200H frame of another length" than 20 (02, c)
+abbrev pub testCallFits : List ℕ → Bool
+testCallFits frame = not (isTestID frame) || eqb (length frame) 20
+
+-- Test 6, passed: "'!' first, CR LF last, 10 to 1,023 bytes"; "6 also covers a 200H frame of another length" (02, c)
 unfoldable pub shaped : List ℕ → Bool
 shaped frame =
     eqb (getD frame 0 0) command
     && (eqb (getD frame (length frame - 2) 0) CR
     && (eqb (getD frame (length frame - 1) 0) LF
-    && (leb 10 (length frame) && leb (length frame) 1023)))
+    && (leb 10 (length frame) && (leb (length frame) 1023 && testCallFits frame))))
 
 -- a field is digits, and they write this number
 abbrev pub saysNumber : List ℕ → ℕ → Bool

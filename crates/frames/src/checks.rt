@@ -3,9 +3,25 @@ use digits::Field;
 ghost use mathlib.Core.Path.{_≡_};
 ghost use Prim.Native.Nat.{_≤_};
 ghost use lib.ListN.{length};
-ghost use Rattle.frames.specs.Frame.{shaped, saysNumber, sumTrue, sumOff, sumPasses, stationPasses};
+ghost use Rattle.frames.specs.Frame.{isTestID, shaped, saysNumber, sumTrue, sumOff, sumPasses, stationPasses};
 
-// Test 6, passed: '!' first, CR LF last, 10 to 1,023 bytes.
+// A test call: its ID is '200'. With fewer than six bytes the ID isn't all there.
+pub fn is_test_id(frame: &[u8]) -> bool
+    ensures { λ r. ⌜ r ≡ isTestID (now (frame .entry)) ⌝ }
+{
+    if frame.len() < 6 {
+        return false;
+    }
+    if frame[3] != 0x32 {
+        return false;
+    }
+    if frame[4] != 0x30 {
+        return false;
+    }
+    frame[5] == 0x30
+}
+
+// Test 6, passed: '!' first, CR LF last, 10 to 1,023 bytes, a test call of 20.
 pub fn is_shaped(frame: &[u8]) -> bool
     ensures { λ r. ⌜ r ≡ shaped (now (frame .entry)) ⌝ }
 {
@@ -22,7 +38,13 @@ pub fn is_shaped(frame: &[u8]) -> bool
     if frame[n - 2] != 0x0d {
         return false;
     }
-    frame[n - 1] == 0x0a
+    if frame[n - 1] != 0x0a {
+        return false;
+    }
+    if n == 20 {
+        return true;
+    }
+    !is_test_id(frame)
 }
 
 // A field's number is this one.

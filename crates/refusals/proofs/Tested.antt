@@ -10,7 +10,7 @@ use lib.ListN.{length, take, drop, getD, drop-of-length-le}
 use lib.Seq.{drop-cons}
 use borrow.Author.Tests.{leb-true, eqb-true, le-leb, lt-leb}
 use Rattle.digits.proofs.Inverse.{and-left, and-right}
-use Rattle.frames.specs.Frame.{command, CR, LF, shaped}
+use Rattle.frames.specs.Frame.{command, CR, LF, testCallFits, shaped}
 use Rattle.kinds.specs.declared.Held.{Held}
 use Rattle.kinds.specs.declared.Lengths.{Lengths}
 use Rattle.kinds.specs.declared.Firsts.{Firsts}
@@ -20,16 +20,25 @@ use Rattle.axes.specs.declared.AxisRecord.{AxisRecord}
 use Rattle.axes.specs.Records.{zeroRecord}
 use Rattle.refusals.specs.Refusals.{pointsFit, variablesFit, leastJournal, journalFits, recordsFit}
 
--- a shaped frame has ten bytes at least
-pub shaped-long : (f : List ℕ) → shaped f ≡ true → 10 ≤ length f
+-- a shaped frame has ten bytes at least, and a test call has 20 (02, c)
+pub record Shape (f : List ℕ) : Type 0 where
+  pub long : 10 ≤ length f
+  pub test-call : testCallFits f ≡ true
+
+pub shape : (f : List ℕ) → shaped f ≡ true → Shape f
 unfolding shaped
-shaped-long f e =
+shape f e =
     let a = eqb (getD f 0 0) command in
     let b = eqb (getD f (length f - 2) 0) CR in
     let c = eqb (getD f (length f - 1) 0) LF in
     let d = leb 10 (length f) in
     let g = leb (length f) 1023 in
-    leb-true 10 (length f) (and-left d g (and-right c (d && g) (and-right b (c && (d && g)) (and-right a (b && (c && (d && g))) e))))
+    let t = testCallFits f in
+    let l = and-right c (d && (g && t)) (and-right b (c && (d && (g && t))) (and-right a (b && (c && (d && (g && t)))) e)) in
+    record { long = leb-true 10 (length f) (and-left d (g && t) l); test-call = and-right g t (and-right d (g && t) l) }
+
+pub shaped-long : (f : List ℕ) → shaped f ≡ true → 10 ≤ length f
+shaped-long f e = shape f e .long
 
 pub record Points (n : ℕ) : Type 0 where
   pub whole-slots : n ≡ 40 * (n / 40)

@@ -3,3 +3,4 @@ pub mod Useless
 pub mod Broken
 pub mod Examples
 pub mod SurviveExamples
+pub mod TestCallExamples

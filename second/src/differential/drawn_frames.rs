@@ -2,6 +2,7 @@
 
 use super::compare::Lent;
 use super::dice::Dice;
+use super::drawn_test_calls;
 use crate::areas::{Kind, AXES};
 use crate::digits;
 use crate::frames::{self, LONGEST_FRAME, SHORTEST_FRAME};
@@ -71,10 +72,11 @@ pub fn good(dice: &mut Dice, lent: &Lent) -> Vec<u8> {
 
 /// A frame with one fault or more.
 pub fn damaged(dice: &mut Dice, lent: &Lent) -> Vec<u8> {
-    match dice.roll(16) {
+    match dice.roll(17) {
         0 => odd_bytes(dice),
         1 | 2 => overlong(dice, lent),
-        3..=7 => {
+        3 => odd_test_call(dice, lent),
+        4..=8 => {
             let frame = good(dice, lent);
             spoiled(dice, frame)
         }
@@ -122,7 +124,7 @@ fn mend_sc(frame: &mut [u8]) {
 fn asking(dice: &mut Dice, lent: &Lent) -> Asking {
     let kinds = lent.kinds();
     match dice.roll(74) {
-        0..=2 => Asking::plain(b"200", test_text(dice)),
+        0..=2 => Asking::plain(b"200", drawn_test_calls::text(dice)),
         3..=6 => Asking::plain(b"208", Vec::new()),
         7..=14 => Asking::points(b"209", points_named(dice, lent), Vec::new()),
         15..=19 => Asking::global(b"210", bytes_named(dice, lent, kinds.columns), Vec::new()),
@@ -134,15 +136,6 @@ fn asking(dice: &mut Dice, lent: &Lent) -> Asking {
         55..=59 => Asking::global(b"20E", bytes_named(dice, lent, kinds.integers), Vec::new()),
         60..=66 => flag_change(dice, kinds.flags),
         _ => change(dice, lent, b"24C", kinds.integers),
-    }
-}
-
-/// Ten bytes of any kind.
-fn test_text(dice: &mut Dice) -> Vec<u8> {
-    match dice.roll(3) {
-        0 => dice.digits(10),
-        1 => dice.bytes_of(b"!\r\n@a0", 10),
-        _ => dice.bytes(10),
     }
 }
 
@@ -384,6 +377,27 @@ fn overlong(dice: &mut Dice, lent: &Lent) -> Vec<u8> {
     let run = Named { kind: lent.kinds().points, start: 1, count, widths: OF_POINTS };
     let asking = Asking::points(b"244", run, rest);
     closed(dice, lent.settings.station, &asking.text())
+}
+
+/// A 200H of another length than 20 bytes, now and then with another fault besides.
+fn odd_test_call(dice: &mut Dice, lent: &Lent) -> Vec<u8> {
+    let length = match dice.roll(3) {
+        0 => dice.pick(&[10, 11, 18, 22, 40, 1_022, 1_023, 1_024]),
+        1 => dice.pick(&[19, 21]),
+        _ => dice.between(SHORTEST_FRAME, LONGEST_FRAME),
+    };
+    let content = match dice.one_in(2) {
+        true => dice.digits(length - SHORTEST_FRAME),
+        false => dice.bytes_of(b"!\r\n0", length - SHORTEST_FRAME),
+    };
+    let text = [b"200", content.as_slice()].concat();
+    let mut frame = closed(dice, lent.settings.station, &text);
+    match dice.roll(4) {
+        0 => other_station(dice, &mut frame),
+        1 => wrong_sc(dice, &mut frame),
+        _ => {}
+    }
+    frame
 }
 
 /// Bytes that make no frame, or hardly one.

@@ -1,20 +1,23 @@
-//! Drawn received bytes for the finder: noise, frames, and runs near 1,023 bytes.
+//! Drawn received bytes for the finder: noise, frames, runs near 1,023 bytes, and test calls.
 
 use super::dice::Dice;
+use super::drawn_test_calls::{cut, head, whole};
 use crate::frames::LONGEST_FRAME;
 
 const MOST: usize = 5_000;
 
 /// From 0 to 5,000 received bytes.
 pub fn received(dice: &mut Dice) -> Vec<u8> {
-    let mut line = match dice.roll(6) {
+    let mut line = match dice.roll(10) {
         0 => few_bytes(dice),
         1..=3 => near_the_window(dice),
         4 => {
             let count = dice.roll(MOST + 1);
             noise(dice, count)
         }
-        _ => several(dice),
+        5 => several(dice),
+        6..=8 => test_calls(dice),
+        _ => heads(dice),
     };
     line.truncate(MOST);
     line
@@ -60,10 +63,62 @@ fn several(dice: &mut Dice) -> Vec<u8> {
     for _ in 0..dice.roll(30) {
         let count = dice.pick(&[0, 0, 1, 5, 200]);
         line.extend(noise(dice, count));
-        line.push(b'!');
-        let count = dice.roll(60);
-        line.extend(dice.digits(count));
-        line.extend(b"\r\n");
+        line.extend(short_frame(dice));
+    }
+    line
+}
+
+fn short_frame(dice: &mut Dice) -> Vec<u8> {
+    let count = dice.roll(60);
+    [b"!", dice.digits(count).as_slice(), b"\r\n"].concat()
+}
+
+/// Something without '!', test calls that are skipped most often, and something inside or behind them.
+fn test_calls(dice: &mut Dice) -> Vec<u8> {
+    let before = dice.pick(&[0, 0, 1, 2, 40, 1_022, 2_500]);
+    let mut line = dice.bytes_of(b"#0A \r\n", before);
+    for _ in 0..dice.pick(&[0, 0, 1, 1, 2, 5]) {
+        line.extend(head(dice));
+        // With 14 bytes or more what follows stands behind the test call, else inside.
+        let (few, count) = (dice.pick(&[&b"0"[..], b"\r\n", b"0\r\n "]), dice.roll(20));
+        line.extend(dice.bytes_of(few, count));
+    }
+    line.extend(after_test_calls(dice));
+    line
+}
+
+/// A whole test call, a cut one, no '!' any more, a run of any length, a short frame.
+fn after_test_calls(dice: &mut Dice) -> Vec<u8> {
+    match dice.roll(8) {
+        0 | 1 => {
+            let count = dice.pick(&[0, 0, 1, 30]);
+            [whole(dice), noise(dice, count)].concat()
+        }
+        2 | 3 => cut(dice),
+        4 => {
+            let count = dice.between(12, 40);
+            dice.bytes_of(b"0 \r\n#", count)
+        }
+        5 | 6 => near_the_window(dice),
+        _ => [short_frame(dice), whole(dice)].concat(),
+    }
+}
+
+/// The head of a test call again and again, the last one cut; now and then something follows.
+fn heads(dice: &mut Dice) -> Vec<u8> {
+    let head = match dice.one_in(2) {
+        true => b"!99200".to_vec(),
+        false => head(dice),
+    };
+    let count = match dice.roll(3) {
+        0 => dice.between(4_090, 4_100),
+        _ => dice.roll(MOST),
+    };
+    let mut line: Vec<u8> = head.into_iter().cycle().take(count).collect();
+    match dice.roll(4) {
+        0 => line.extend(b"\r\n"),
+        1 => line.extend(after_test_calls(dice)),
+        _ => {}
     }
     line
 }

@@ -7,6 +7,7 @@ pub mod dice;
 pub mod drawn_boards;
 pub mod drawn_frames;
 pub mod drawn_line;
+pub mod drawn_test_calls;
 pub mod left;
 pub mod places;
 pub mod player;

@@ -1,14 +1,15 @@
 //! Places near a limit: those a run of calls must come by, and those one call came by.
 
+use super::calls::Finding;
 use super::compare::{Answer, Call, Lent};
 use crate::areas::{Area, Board, Kinds, Run, Settings, FLAGS, INTEGER, INTEGERS, SLOT};
 use crate::digits;
-use crate::frames::{LONGEST_FRAME, LONGEST_REPLY};
+use crate::frames::{LONGEST_FRAME, LONGEST_REPLY, SHORTEST_FRAME, TEST_CALL_FRAME};
 use crate::journal::{least_length, length_is_right};
 use crate::link::Outcome;
 
 /// Places a run must come by, besides numbers and messages.
-pub const PLACES: [&str; 46] = [
+pub const PLACES: [&str; 60] = [
     "true SC accepted",
     "'@@' accepted",
     "frame of 1,023 bytes",
@@ -55,6 +56,20 @@ pub const PLACES: [&str; 46] = [
     "columns stepped back",
     "integers stepped back",
     "flags stepped back",
+    "200H with CR LF among its ten accepted",
+    "200H of 19 bytes refused by 6",
+    "200H of 21 bytes refused by 6",
+    "200H of another length refused by 6",
+    "test call with CR LF among its ten found",
+    "test call with '!' among its ten found",
+    "CR LF and '200' after a '!' found",
+    "wait at a cut test call",
+    "wait at a cut test call with CR LF",
+    "frame after a skipped '!'",
+    "test call after a skipped '!'",
+    "nothing after a skipped '!'",
+    "wait after a skipped '!'",
+    "too long after a skipped '!'",
 ];
 
 /// A place, and whether a call came by it.
@@ -73,6 +88,9 @@ pub fn reached(call: &Call, before: &Lent, after: &Lent, answer: Answer) -> Vec<
             if number == 0 {
                 places.extend(of_step_back(before, after));
             }
+        }
+        (Call::Receive { received }, Answer::Received(finding)) => {
+            places.extend(of_line(received, finding));
         }
         _ => {}
     }
@@ -134,6 +152,9 @@ fn of_frame(frame: &[u8], before: &Lent, after: &Lent, outcome: Outcome) -> Vec<
         ("frame of 1,024 bytes", frame.len() == LONGEST_FRAME + 1),
         ("frame of 1,023 bytes", refused && frame.len() == LONGEST_FRAME),
     ];
+    if frame.get(3..6) == Some(b"200") {
+        places.extend(of_test_call(frame, outcome.number));
+    }
     let run = run_of(frame, &before.kinds());
     match outcome.number {
         0 => places.extend(of_accepted(frame, before)),
@@ -151,6 +172,23 @@ fn of_frame(frame: &[u8], before: &Lent, after: &Lent, outcome: Outcome) -> Vec<
         }
     }
     places
+}
+
+fn of_test_call(frame: &[u8], number: u16) -> Vec<Place> {
+    let length = frame.len();
+    let marked = frame.starts_with(b"!") && frame.ends_with(b"\r\n");
+    // Nothing else is wrong with the shape, so that 6 is given for the length.
+    let by_6 = number == 6 && marked && (SHORTEST_FRAME..=LONGEST_FRAME).contains(&length);
+    vec![
+        ("200H with CR LF among its ten accepted", number == 0 && has_pair(&frame[6..16])),
+        ("200H of 19 bytes refused by 6", by_6 && length == 19),
+        ("200H of 21 bytes refused by 6", by_6 && length == 21),
+        ("200H of another length refused by 6", by_6),
+    ]
+}
+
+fn has_pair(bytes: &[u8]) -> bool {
+    bytes.windows(2).any(|pair| pair == b"\r\n")
 }
 
 /// The numbers that a frame of the right length names.
@@ -269,4 +307,33 @@ fn of_step_back(before: &Lent, after: &Lent) -> Vec<Place> {
         None => return Vec::new(),
     };
     vec![(name, true)]
+}
+
+/// What the finder came by: test calls, and '!' that it skipped.
+fn of_line(received: &[u8], finding: Finding) -> Vec<Place> {
+    let [frame, nothing, wait, too_long] = [0, 1, 2, 3].map(|code| finding.code == code);
+    // The '!' that decided; where there is none, all were skipped.
+    let decided = match finding.code {
+        0 => Some(finding.start),
+        1 => None,
+        2 => Some(finding.drop),
+        _ => Some(finding.drop - 1),
+    };
+    let skipped = received.iter().position(|&byte| byte == b'!') != decided;
+    let from_it = decided.map_or(&[][..], |at| &received[at..]);
+    let id = from_it.get(3..6) == Some(b"200");
+    let test_call = frame && id && finding.length == TEST_CALL_FRAME;
+    let ten = from_it.get(6..16).unwrap_or(&[]);
+    vec![
+        ("test call with CR LF among its ten found", test_call && has_pair(ten)),
+        ("test call with '!' among its ten found", test_call && ten.contains(&b'!')),
+        ("CR LF and '200' after a '!' found", frame && id && finding.length == 3),
+        ("wait at a cut test call", wait && id),
+        ("wait at a cut test call with CR LF", wait && id && has_pair(from_it)),
+        ("frame after a skipped '!'", skipped && frame && !test_call),
+        ("test call after a skipped '!'", skipped && test_call),
+        ("nothing after a skipped '!'", skipped && nothing),
+        ("wait after a skipped '!'", skipped && wait),
+        ("too long after a skipped '!'", skipped && too_long),
+    ]
 }

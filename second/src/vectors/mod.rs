@@ -6,6 +6,7 @@ mod journal_cases;
 mod play;
 mod refusal_cases;
 mod script;
+mod test_call_cases;
 mod variable_cases;
 mod variable_refusals;
 
@@ -21,6 +22,7 @@ pub fn stdin() -> Vec<u8> {
     journal_cases::add(&mut script);
     variable_cases::add(&mut script);
     variable_refusals::add(&mut script);
+    test_call_cases::add(&mut script);
     drawn_cases::add(&mut script);
     script.end()
 }

@@ -29,15 +29,26 @@ returns-4 : tie.Need-returns-4
 unfolding shaped
 returns-4 c = search (tests)
 
-sub-result : tie.Need-sub-result
-sub-result c = search needs
+sub-if5 : tie.Need-sub-if5
+sub-if5 c = search needs
 
-shared-slice-read-result : tie.Need-shared-slice-read-result
-shared-slice-read-result c = search needs
+shared-slice-read-if5 : tie.Need-shared-slice-read-if5
+shared-slice-read-if5 c = search needs
 
 returns-5 : tie.Need-returns-5
 unfolding shaped
 returns-5 c = search (tests)
+
+returns-6 : tie.Need-returns-6
+unfolding shaped
+returns-6 c = search (tests)
+
+is-test-id-requires : tie.Need-is-test-id-requires
+is-test-id-requires c κs = search needs
+
+returns-7 : tie.Need-returns-7
+unfolding shaped
+returns-7 c = rw (c .is-test-id .ensures) (search (tests))
 
 pub is-shaped-spec : {M : Type 1} → statement M
 is-shaped-spec =
@@ -50,6 +61,9 @@ is-shaped-spec =
     sub-if4
     shared-slice-read-if4
     returns-4
-    sub-result
-    shared-slice-read-result
-    returns-5)
+    sub-if5
+    shared-slice-read-if5
+    returns-5
+    returns-6
+    is-test-id-requires
+    returns-7)

@@ -1,0 +1,52 @@
+-- Demand 2 of test calls: "The maker says the ten bytes of 200H are arbitrary. [..] Demand 2 reads so from here." (02, c)
+use Prim.Native.Nat.{ℕ, _+_, _<_}
+use mathlib.Core.Path.{_≡_}
+use mathlib.Core.Bool.{Bool, true}
+use mathlib.Core.List.{List, _++_}
+use lib.ListN.{length}
+use Rattle.digits.specs.Text.{text}
+use Rattle.frames.specs.Frame.{normal, isTestID, replyOf}
+use Rattle.finder.specs.declared.Found.{Found}
+use Rattle.finder.specs.declared.Found.the-variants.{Frame}
+use Rattle.finder.specs.Find.{findIn, partOf}
+use Rattle.finder.specs.Laws.{Quiet, FoundAsBefore}
+use Rattle.messages.specs.Rows.{firstOf}
+use Rattle.calls.specs.Calls.{Areas, Sent, Call, Outcome, callOf, lengthsOf}
+use Rattle.refusals.specs.Refusals.{areaRows}
+use Rattle.link.specs.Answer.{answerOf}
+use Rattle.demands.specs.History.{Conduct, ours}
+use Rattle.demands.specs.Reading.{commandOf, Host}
+
+-- a test call to the host's station, with a true SC or '@@'
+abbrev pub testCall : Sent → Bool → List ℕ → List ℕ
+testCall h checked ten = commandOf checked (h .settings .station) (text "200" ++ ten)
+
+-- what a board answers a host to what a finder finds in the received bytes
+abbrev pub toFound : (List ℕ → Found) → Conduct → Areas → Sent → List ℕ → Outcome
+toFound find board a h received = board .answer (callOf (partOf (find received) received) (h .axes) (h .settings) (h .reply) a)
+
+-- a frame of 20 bytes behind so many others is found whole and used up to its end, accepted, and answered with the ten bytes unchanged; no area changes
+pub record SaidBack (find : List ℕ → Found) (board : Conduct) (a : Areas) (h : Sent) (frame ten : List ℕ) (start : ℕ) (received : List ℕ) : Type 0 where
+  pub found : find received ≡ Frame start (start + 20)
+  pub whole : partOf (find received) received ≡ frame
+  pub number : toFound find board a h received .number ≡ 0
+  pub says : toFound find board a h received .text ≡ replyOf normal (h .settings .station) (text "200" ++ ten)
+  pub areas : toFound find board a h received .areas ≡ a
+
+-- so over areas that no test refuses, from any host that is heard: any ten bytes, CR LF, '!' and '!xx200' among them, behind bytes without '!', whatever
+-- follows
+abbrev pub EveryTestCall : (List ℕ → Found) → Conduct → Type 0
+EveryTestCall find board =
+    (a : Areas) → firstOf (areaRows (lengthsOf a) (a .journal) (a .kept)) ≡ 0 → (h : Sent) → Host h → (checked : Bool) (ten before behind : List ℕ)
+    → length ten ≡ 10 → Quiet before
+    → SaidBack find board a h (testCall h checked ten) ten (length before) (before ++ (testCall h checked ten ++ behind))
+
+-- a frame with the ID '200' gets no error reply, so 103 "is never a 200H's": it is accepted, or refused without a reply
+abbrev pub NoErrorReply : Type 0
+NoErrorReply = (c : Call) → isTestID (c .sent .frame) ≡ true → answerOf c .number < 101
+
+-- test calls, and "any frame of document 01 whose ID isn't '200' is found as before"
+pub record TestCalls : Type 0 where
+  pub every-test-call : EveryTestCall findIn ours
+  pub no-error-reply : NoErrorReply
+  pub found-as-before : (received : List ℕ) → FoundAsBefore received

@@ -1,0 +1,56 @@
+-- Test calls worked through by computing (02, c): what meets the premises of demand 2's statement, and a finder and boards that it refutes.
+use Prim.Native.Nat.{ℕ}
+use mathlib.Core.Path.{_≡_}
+use mathlib.Core.Bool.{true, false}
+use mathlib.Core.List.{List, []}
+use Rattle.digits.specs.Text.{text}
+use Rattle.frames.specs.Frame.{isTestID}
+use Rattle.finder.specs.declared.Found.the-variants.{Frame}
+use Rattle.finder.specs.Find.{findIn}
+use Rattle.finder.specs.Laws.{Quiet, findBefore}
+use Rattle.messages.specs.Rows.{firstOf}
+use Rattle.calls.specs.Calls.{Sent, lengthsOf}
+use Rattle.refusals.specs.Refusals.{areaRows}
+use Rattle.link.specs.Answer.{answerOf}
+use Rattle.demands.specs.History.{ours}
+use Rattle.demands.specs.Reading.{Host}
+use Rattle.demands.specs.TestCalls.{testCall, toFound, EveryTestCall}
+use Rattle.trials.specs.Cases.{blank, sending, bench}
+use Rattle.trials.specs.Useless.{refuser, parrot}
+
+-- ten bytes that are line ends, and ten with '!' and '!xx200' among them
+abbrev pub lineEnds : List ℕ
+lineEnds = text "\r\n\r\n\r\n\r\n\r\n"
+
+abbrev pub marks : List ℕ
+marks = text "!\r\n!99200\r"
+
+-- the bench's host
+abbrev pub host : Sent
+host = sending []
+
+pub record TestCallExamples : Type 0 where
+  -- line ends, with '@@' and with a true SC: found behind "ab" with more behind it, and said back
+  pub line : testCall host false lineEnds ≡ text "!99200\r\n\r\n\r\n\r\n\r\n@@\r\n"
+  pub found : findIn (text "ab!99200\r\n\r\n\r\n\r\n\r\n@@\r\n!9") ≡ Frame 2 22
+  pub said : toFound findIn ours blank host (text "ab!99200\r\n\r\n\r\n\r\n\r\n@@\r\n!9") .text ≡ text "#99200\r\n\r\n\r\n\r\n\r\n9A\r\n"
+  pub checked : answerOf (bench blank (text "!99200\r\n\r\n\r\n\r\n\r\n98\r\n")) .text ≡ text "#99200\r\n\r\n\r\n\r\n\r\n9A\r\n"
+  -- another test call's head among the ten bytes
+  pub nested : findIn (text "!99200!\r\n!99200\r@@\r\n") ≡ Frame 0 20
+  pub nested-said : toFound findIn ours blank host (testCall host true marks) .text ≡ text "#99200!\r\n!99200\r91\r\n"
+  -- the premises: areas that no test refuses, a host that is heard, bytes without '!'
+  pub areas-pass : firstOf (areaRows (lengthsOf blank) (blank .journal) (blank .kept)) ≡ 0
+  pub heard : Host host
+  pub quiet : Quiet (text "ab")
+  -- 200H frames of 19 and 21 bytes are 6, whatever their station; a frame of another ID with ten bytes of content isn't
+  pub nineteen : answerOf (bench blank (text "!99200123456789@@\r\n")) .number ≡ 6
+  pub twenty-one : answerOf (bench blank (text "!\r\n200123456789AB@@\r\n")) .number ≡ 6
+  pub other-id : answerOf (bench blank (text "!992080123456789@@\r\n")) .number ≡ 103
+  -- `FoundAsBefore`: a frame of another ID
+  pub as-before : (findBefore (text "ab!99299@@\r\n") ≡ Frame 2 12) × (isTestID (text "!99299@@\r\n") ≡ false)
+
+-- document 01's finder cuts a test call with line ends; a board that refuses all, and one with a constant reply
+pub record TestCallsLost : Type 0 where
+  pub cut : EveryTestCall findBefore ours → ⊥
+  pub refused : EveryTestCall findIn refuser → ⊥
+  pub same-reply : EveryTestCall findIn parrot → ⊥
