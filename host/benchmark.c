@@ -709,6 +709,23 @@ static void find_longest(void)
     run(CABINET_FRAME, 0);
 }
 
+/*
+ * Every '!' begins a test call whose bytes 19 and 20 are '!' and '9', so all are skipped up to byte 4,074,
+ * which has 22 bytes from it on. The next, at 4,080, has 16: there the call waits, and goes no further.
+ */
+static void find_test_calls(void)
+{
+    static const char head[] = "!99200";
+    begin_received("finder, 4,096 bytes of `!99200` again and again", 0);
+    while (trial.handed_length < RECEIVED) {
+        trial.handed[trial.handed_length] = (uint8_t)head[trial.handed_length % (sizeof head - 1)];
+        trial.handed_length++;
+    }
+    run(CABINET_WAIT, 0);
+    if (work.drop != 4080)
+        fail("another drop than expected");
+}
+
 static void (*const trials[])(size_t) = {
     test_call, point_count, full_list, sparse_list, flag_query, integer_query, column_query, axis_status,
     write_point, write_points, clear_points, clear_all, write_flag, write_integers, write_columns,
@@ -729,5 +746,6 @@ int main(void)
     find_nothing();
     find_short();
     find_longest();
+    find_test_calls();
     return 0;
 }

@@ -1,5 +1,5 @@
 /*
- * plain.c: the board's three calls, written plainly by hand from documents 01, 02 (request a) and 000.
+ * plain.c: the board's three calls, written plainly by hand from documents 01, 02 (requests a and c) and 000.
  *
  * No heap and no second buffers: replies are written where they are lent, old bytes go straight into
  * the journal. A frame is read once for its sum and once for its fields. Any bytes and any lengths
@@ -25,6 +25,7 @@ enum {
     SHORTEST_FRAME = 10,
     LONGEST_FRAME = 1023,
     LONGEST_REPLY = 1024,
+    TEST_CALL_FRAME = 20, /* of ten bytes, line ends or not */
     ID_AT = 3,
     CONTENT_AT = 6,
     END = 4, /* SC, CR, LF */
@@ -313,11 +314,21 @@ static int axes_are_good(const uint8_t *axes, size_t axes_length, uint8_t fitted
     return over == 0;
 }
 
+static int is_pair(const uint8_t *bytes)
+{
+    return bytes[0] == '\r' && bytes[1] == '\n';
+}
+
+static int is_test_call(const uint8_t *id)
+{
+    return id[0] == '2' && id[1] == '0' && id[2] == '0';
+}
+
 /* Test 6. */
 static int has_shape(const uint8_t *frame, size_t length)
 {
     return length >= SHORTEST_FRAME && length <= LONGEST_FRAME && frame[0] == '!' &&
-           frame[length - 2] == '\r' && frame[length - 1] == '\n';
+           is_pair(frame + length - 2) && (length == TEST_CALL_FRAME || !is_test_call(frame + ID_AT));
 }
 
 /* Test 7; on the way, bit 7 of *digits says whether all content bytes are digits. */
@@ -480,7 +491,7 @@ static uint16_t judge(struct asked *asked, unsigned digits, const struct areas *
         return 102;
     switch (asked->message) {
     case TEST_CALL:
-        return asked->length == 10 ? 0 : 103;
+        return 0; /* test 6 saw its length */
     case POINT_COUNT:
         return asked->length == 0 ? 0 : 103;
     case AXIS_STATUS:
@@ -713,29 +724,68 @@ static size_t find_pair(const uint8_t *bytes, size_t length)
     return length;
 }
 
+/* Whether a test call begins at a '!': its six bytes are there, and the station's two aren't CR LF. */
+static int begins_test_call(const uint8_t *mark, size_t there)
+{
+    return there >= CONTENT_AT && is_test_call(mark + ID_AT) && !is_pair(mark + 1);
+}
+
+/* Whether a '!' is skipped: a test call's whose 20 bytes are there and don't end in CR LF. */
+static int is_skipped(const uint8_t *mark, size_t there)
+{
+    return there >= TEST_CALL_FRAME && begins_test_call(mark, there) && !is_pair(mark + TEST_CALL_FRAME - 2);
+}
+
+/* The '!' after a skipped one, or NULL. It is often near: memchr's call costs more than a few bytes do. */
+static const uint8_t *next_mark(const uint8_t *from, const uint8_t *end)
+{
+    const uint8_t *by_hand = end - from > TEST_CALL_FRAME ? from + TEST_CALL_FRAME : end;
+    for (; from < by_hand; from++)
+        if (*from == '!')
+            return from;
+    return from < end ? memchr(from, '!', (size_t)(end - from)) : NULL;
+}
+
+/* The first '!' that isn't skipped, or NULL. */
+static const uint8_t *find_mark(const uint8_t *received, size_t length)
+{
+    const uint8_t *end = received + length;
+    const uint8_t *mark = length > 0 ? memchr(received, '!', length) : NULL;
+    while (mark != NULL && is_skipped(mark, (size_t)(end - mark)))
+        mark = next_mark(mark + 1, end);
+    return mark;
+}
+
+/* Length of the frame at a '!' that isn't skipped, 0 where its end isn't there. */
+static size_t length_from(const uint8_t *mark, size_t there)
+{
+    size_t window = there < LONGEST_FRAME ? there : LONGEST_FRAME, pair_at;
+    if (begins_test_call(mark, there))
+        return there < TEST_CALL_FRAME ? 0 : TEST_CALL_FRAME;
+    pair_at = find_pair(mark, window);
+    return pair_at < window ? pair_at + 2 : 0;
+}
+
 uint8_t plain_receive(const uint8_t *received, size_t received_length,
                       size_t *start, size_t *length, size_t *drop)
 {
-    const uint8_t *mark = received_length > 0 ? memchr(received, '!', received_length) : NULL;
-    size_t before, window, pair_at;
+    const uint8_t *mark = find_mark(received, received_length);
+    size_t before, there;
     *start = 0;
     *length = 0;
     *drop = received_length;
     if (mark == NULL)
         return 1;
     before = (size_t)(mark - received);
-    window = received_length - before;
-    if (window > LONGEST_FRAME)
-        window = LONGEST_FRAME;
-    pair_at = find_pair(mark, window);
-    if (pair_at < window) {
+    there = received_length - before;
+    *length = length_from(mark, there);
+    if (*length > 0) {
         *start = before;
-        *length = pair_at + 2;
-        *drop = before + pair_at + 2;
+        *drop = before + *length;
         return 0;
     }
-    *drop = window == LONGEST_FRAME ? before + 1 : before;
-    return window == LONGEST_FRAME ? 3 : 2;
+    *drop = there < LONGEST_FRAME ? before : before + 1;
+    return there < LONGEST_FRAME ? 2 : 3;
 }
 
 /* Tests 5 to 8; 0 where none holds. *digits is what test 7 finds of the content. */
