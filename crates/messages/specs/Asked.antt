@@ -19,7 +19,7 @@ use Rattle.table.specs.Table.{messageOf, programIn, startIn, countIn, restIn, l
 abbrev pub notDigits : Message → List ℕ → Bool
 notDigits m content = not (anyBytes (m .follows)) && not (allDigits content)
 
--- 103: "content length isn't this message's"
+-- 103: "content length isn't this message's"; never a 200H's, which 6 has tested (02, c)
 abbrev pub wrongLength : Held → Message → List ℕ → Bool
 wrongLength held m content = not (lengthRight held m content)
 

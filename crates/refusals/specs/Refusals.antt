@@ -57,7 +57,7 @@ areaRows lengths journal kept =
     ∷ (4 when (not (journalFits (heldIn lengths) journal (kept .used))))
     ∷ []
 
--- 6, 7 and 8: the frame itself
+-- 6, 7 and 8: the frame itself; "6 also covers a 200H frame of another length" (02, c)
 unfoldable pub frameRows : ℕ → List ℕ → List Row
 frameRows station frame =
     (6 when (not (shaped frame)))

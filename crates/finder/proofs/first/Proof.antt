@@ -65,11 +65,11 @@ next c =
 add-bang-2 : tie.Need-add-bang-2 Inv-loop μ-loop
 add-bang-2 c = omega (arith, next c .at-most)
 
-loop-less : tie.Need-loop-less Inv-loop μ-loop
-loop-less c = omega arith
-
 loop-again : tie.Need-loop-again Inv-loop μ-loop
 loop-again c = (omega arith, next c)
+
+loop-less : tie.Need-loop-less Inv-loop μ-loop
+loop-less c = omega arith
 
 returns-2 : tie.Need-returns-2 Inv-loop μ-loop
 returns-2 c = let g = c .before in none (g .loop .inv .1) (omega arith) ∙ sym (skip-is (g .before .before .before .args .s .now))
