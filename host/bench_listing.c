@@ -2,8 +2,8 @@
  * bench_listing.c: plays document 01's bench listing through cabinet.h and compares every byte.
  *
  * The input is received in pieces of every length, found, answered, then stepped back and queried. Then
- * integer variables and flags are written, queried and stepped back. Exits 0 where all is as the listing
- * and the documents say, 1 at the first difference.
+ * test calls with line ends in them are received so, and integer variables and flags are written, queried
+ * and stepped back. Exits 0 where all is as the listing and the documents say, 1 at the first difference.
  */
 #include "cabinet.h"
 
@@ -17,6 +17,14 @@ static const char input[] = "!99200001234567829\r\n"
                             "!9924400100103001E001E00640000C350FFFFFFFFF3\r\n"
                             "!99299@@\r\n";
 static const char output[] = "#9920000123456782B\r\n#9924400100151\r\n&991012A\r\n";
+
+/* Line ends as the ten bytes; a head of a test call among them; one that doesn't end, a frame inside it. */
+static const char test_calls[] = "ab!99200\r\n\r\n\r\n\r\n\r\n98\r\n"
+                                 "!99200!\r\n!99200\r@@\r\n"
+                                 "!99200!99299@@\r\n0000"
+                                 "!99200001234567829\r\n";
+static const char said_back[] = "#99200\r\n\r\n\r\n\r\n\r\n9A\r\n#99200!\r\n!99200\r91\r\n"
+                                "&991012A\r\n#9920000123456782B\r\n";
 
 /* Point 1 after the second frame: axes 1 and 2, 0.30 G both, 100 mm/sec, 50.000 and -0.001 mm. */
 static const uint8_t point_1[CABINET_SLOT_BYTES] = {0x03, 0, 0, 30, 0, 30, 0, 100,
@@ -45,10 +53,15 @@ static size_t held;
 static uint8_t sent[256];
 static size_t sent_length;
 
+static int failed_in(const char *part, const char *what, size_t piece)
+{
+    fprintf(stderr, "%s, pieces of %lu: %s\n", part, (unsigned long)piece, what);
+    return 1;
+}
+
 static int failed(const char *what, size_t piece)
 {
-    fprintf(stderr, "bench listing, pieces of %lu: %s\n", (unsigned long)piece, what);
-    return 1;
+    return failed_in("bench listing", what, piece);
 }
 
 /* Whether the area begins with these bytes and is zero after them. */
@@ -131,6 +144,16 @@ static int receive(const uint8_t *bytes, size_t count)
     return 1;
 }
 
+/* Takes all these bytes from the line, in pieces of one length; 0 where something is wrong. */
+static int receive_in_pieces(const char *bytes, size_t total, size_t piece)
+{
+    size_t at;
+    for (at = 0; at < total; at += piece)
+        if (!receive((const uint8_t *)bytes + at, total - at < piece ? total - at : piece))
+            return 0;
+    return 1;
+}
+
 /* One command whose whole reply and number are known. */
 static int answers(const char *command, enum cabinet_refusal number, const char *expected)
 {
@@ -148,11 +171,9 @@ static int steps_back(enum cabinet_refusal number)
 /* The whole listing in pieces of one length, then the step back and the queries. */
 static int play(size_t piece)
 {
-    size_t at, total = sizeof input - 1;
     start_fresh();
-    for (at = 0; at < total; at += piece)
-        if (!receive((const uint8_t *)input + at, total - at < piece ? total - at : piece))
-            return failed("finder", piece);
+    if (!receive_in_pieces(input, sizeof input - 1, piece))
+        return failed("finder", piece);
     if (held != 0)
         return failed("bytes left over", piece);
     if (sent_length != sizeof output - 1 || memcmp(sent, output, sent_length) != 0)
@@ -170,6 +191,19 @@ static int play(size_t piece)
         return failed("query after the step back", piece);
     if (!steps_back(CABINET_REFUSED_NO_WRITE_LEFT) || !areas_are(0))
         return failed("step back with nothing left", piece);
+    return 0;
+}
+
+/* Test calls in pieces of one length, and one of 21 bytes that is handed over. */
+static int play_test_calls(size_t piece)
+{
+    start_fresh();
+    if (!receive_in_pieces(test_calls, sizeof test_calls - 1, piece) || held != 0)
+        return failed_in("test calls", "finder", piece);
+    if (sent_length != sizeof said_back - 1 || memcmp(sent, said_back, sent_length) != 0)
+        return failed_in("test calls", "output", piece);
+    if (!answers("!9920000123456789@@\r\n", CABINET_REFUSED_FRAME, "") || !areas_are(0))
+        return failed_in("test calls", "one of 21 bytes", piece);
     return 0;
 }
 
@@ -228,10 +262,15 @@ int main(void)
     for (piece = 1; piece < sizeof input; piece++)
         if (play(piece) != 0)
             return 1;
+    for (piece = 1; piece < sizeof test_calls; piece++)
+        if (play_test_calls(piece) != 0)
+            return 1;
     if (play_variables() != 0)
         return 1;
     printf("bench listing: every byte as document 01 has it, in pieces of 1 to %lu\n",
            (unsigned long)(sizeof input - 1));
+    printf("test calls: line ends and all said back, in pieces of 1 to %lu\n",
+           (unsigned long)(sizeof test_calls - 1));
     printf("integers and flags: written, queried, refused and stepped back as the documents say\n");
     return 0;
 }

@@ -5,7 +5,8 @@
  * (cabinet_answer_frame) and the service panel's step back (cabinet_take_back). The last two are made
  * on a struct cabinet, which has all that they need by name; below them stand the archive's own calls
  * on numbers and byte areas, cabinet_answer and cabinet_step_back. What they promise is document 01's
- * and, of integer variables and flags, document 02's (request a); section names below are document 01's.
+ * and, of integer variables and flags (request a) and of test calls with line ends in them (request c),
+ * document 02's; section names below are document 01's.
  *
  * Link with libboard.a. C99 or later, or C++11 or later.
  *
@@ -70,14 +71,15 @@
  *        not whole well-formed entries
  *     5  not eight axis records, or a sensor or error code too       none   same
  *        large, or no fitted axis
- *     6  not '!' first, CR LF last, 10 to 1,023 bytes                none   same
+ *     6  not '!' first, CR LF last, 10 to 1,023 bytes; or a 200H     none   same
+ *        frame of another length than 20, whatever its station
  *     7  SC neither true nor '@@'                                    none   same
  *     8  station differs or isn't digits                             none   same
  *     9  step back with used length 0                                none   same
  *   101  message unknown                                             error  10 reply bytes written,
  *                                                                           nothing else
  *   102  a content byte isn't a digit (not 200H)                     error  same
- *   103  content length isn't this message's                         error  same
+ *   103  content length isn't this message's (never a 200H's: 6)     error  same
  *   104  program number not 00                                       error  same
  *   105  count zero (24BH has no count)                              error  same
  *   106  a number from start to start+count-1 not held               error  same
@@ -150,8 +152,10 @@ extern "C" {
  * Version 2: integers, flags and their settings, in cabinet_answer, cabinet_step_back and struct cabinet;
  * messages 20DH, 20EH, 24BH and 24CH, refused 101 before; refusals 10 and 108; a least journal of 40*N+500
  * bytes, 40*N+300 before.
+ * Version 3: cabinet_receive finds a test call whole, line ends among its ten bytes or not, which it cut at
+ * the first of them before; a 200H frame of another length than 20 is refused 6, 103 before.
  */
-#define CABINET_VERSION 2
+#define CABINET_VERSION 3
 
 /* Lengths in bytes ("The areas", "Frame"), and how many there are: points at most, integers, flags. */
 #define CABINET_SLOT_BYTES 40
@@ -175,7 +179,7 @@ extern "C" {
 /* What cabinet_receive answers ("Finding a frame in the received bytes"). */
 enum cabinet_found {
     CABINET_FRAME = 0,   /* a frame was found */
-    CABINET_NOTHING = 1, /* there is no '!' */
+    CABINET_NOTHING = 1, /* there is no '!', or none that isn't skipped */
     CABINET_WAIT = 2,    /* there is a '!', its frame hasn't ended: come back with more bytes */
     CABINET_TOO_LONG = 3 /* no CR LF in the 1,023 bytes from the '!' on */
 };
@@ -217,6 +221,12 @@ enum cabinet_refusal {
  *
  * Returns CABINET_FRAME, CABINET_NOTHING, CABINET_WAIT or CABINET_TOO_LONG. After CABINET_FRAME and
  * CABINET_TOO_LONG, drop and call again: another frame may be there.
+ *
+ * A test call may have line ends among its ten bytes: where two bytes that aren't CR LF and '200' follow
+ * the '!', the frame is 20 bytes long. With fewer there the answer is CABINET_WAIT. Where its last two
+ * aren't CR LF, that '!' is skipped and the same call looks on from the byte after it; what it then finds
+ * is counted from received[0] all the same, and with no further '!' all is dropped. Any other frame ends
+ * at its first CR LF.
  *
  * A frame found may still be refused by cabinet_answer; it may have 3 to 1,023 bytes.
  */
