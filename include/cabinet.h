@@ -79,7 +79,7 @@
  *   101  message unknown                                             error  10 reply bytes written,
  *                                                                           nothing else
  *   102  a content byte isn't a digit (not 200H)                     error  same
- *   103  content length isn't this message's (never a 200H's: 6)     error  same
+ *   103  content length isn't this message's (a 200H's is 6)         error  same
  *   104  program number not 00                                       error  same
  *   105  count zero (24BH has no count)                              error  same
  *   106  a number from start to start+count-1 not held               error  same
@@ -152,8 +152,8 @@ extern "C" {
  * Version 2: integers, flags and their settings, in cabinet_answer, cabinet_step_back and struct cabinet;
  * messages 20DH, 20EH, 24BH and 24CH, refused 101 before; refusals 10 and 108; a least journal of 40*N+500
  * bytes, 40*N+300 before.
- * Version 3: cabinet_receive finds a test call whole, line ends among its ten bytes or not, which it cut at
- * the first of them before; a 200H frame of another length than 20 is refused 6, 103 before.
+ * Version 3: cabinet_receive takes 20 bytes as a test call, so line ends may be among its ten bytes; before,
+ * it cut the frame at the first. A 200H frame of another length is refused 6, without a reply; before, 103.
  */
 #define CABINET_VERSION 3
 
@@ -179,7 +179,7 @@ extern "C" {
 /* What cabinet_receive answers ("Finding a frame in the received bytes"). */
 enum cabinet_found {
     CABINET_FRAME = 0,   /* a frame was found */
-    CABINET_NOTHING = 1, /* there is no '!', or none that isn't skipped */
+    CABINET_NOTHING = 1, /* there is no '!', or each was skipped (cabinet_receive, below) */
     CABINET_WAIT = 2,    /* there is a '!', its frame hasn't ended: come back with more bytes */
     CABINET_TOO_LONG = 3 /* no CR LF in the 1,023 bytes from the '!' on */
 };
@@ -216,17 +216,18 @@ enum cabinet_refusal {
  *   drop            out: how many bytes at the front are used up or dropped, at most received_length:
  *                     CABINET_FRAME     all up to the frame's end (*start + *length)
  *                     CABINET_NOTHING   all
- *                     CABINET_WAIT      what stood before the '!'
- *                     CABINET_TOO_LONG  all up to and with the '!'
+ *                     CABINET_WAIT      what stood before the '!' whose frame hasn't ended
+ *                     CABINET_TOO_LONG  all up to and with the '!' from which no CR LF comes
  *
  * Returns CABINET_FRAME, CABINET_NOTHING, CABINET_WAIT or CABINET_TOO_LONG. After CABINET_FRAME and
  * CABINET_TOO_LONG, drop and call again: another frame may be there.
  *
- * A test call may have line ends among its ten bytes: where two bytes that aren't CR LF and '200' follow
- * the '!', the frame is 20 bytes long. With fewer there the answer is CABINET_WAIT. Where its last two
- * aren't CR LF, that '!' is skipped and the same call looks on from the byte after it; what it then finds
- * is counted from received[0] all the same, and with no further '!' all is dropped. Any other frame ends
- * at its first CR LF.
+ * A test call may have line ends among its ten bytes: where two bytes that aren't the pair CR LF, and then
+ * '200', follow the '!', the frame is 20 bytes long. With fewer there the answer is CABINET_WAIT, also
+ * where another frame stands among them; a 200H that was sent too short so takes the bytes behind it as its
+ * own. Where the last two of the 20 aren't CR LF, that '!' is skipped and the same call looks on from the
+ * byte after it; what it then finds is counted from received[0] all the same, skipped bytes are dropped with
+ * the rest, and with no further '!' all is dropped. Any other frame ends at its first CR LF.
  *
  * A frame found may still be refused by cabinet_answer; it may have 3 to 1,023 bytes.
  */

@@ -68,7 +68,7 @@ module _ (station : ℕ) (said sc : List ℕ) (two : length sc ≡ 2) where
 
   module _ (least : 3 ≤ length said) where
     -- its ID is the first three bytes of what it says
-    pub is-message : messageIn (framed station said sc) ≡ take 3 said
+    is-message : messageIn (framed station said sc) ≡ take 3 said
     is-message = take-append-le 3 said (sc ++ (CR ∷ LF ∷ [])) least
 
     -- test 6: '!' first, CR LF last, 10 to 1,023 bytes, a test call of 20 (02, c)

@@ -1,14 +1,13 @@
 -- Every reply is closed by `replyOf`.
 use Prim.Native.Nat.{ℕ}
 use mathlib.Core.Path.{_≡_, refl, sym, ap, _∙_, subst}
-use mathlib.Core.Bool.{false}
 use mathlib.Core.List.{List, [], _++_}
 use native.Mathlib.Omega.{arith}
 use lib.ListN.{getD}
 use borrow.Author.Tests.{ne-eqb}
 use Rattle.digits.specs.Digits.{byteOf}
 use Rattle.digits.specs.Text.{text}
-use Rattle.frames.specs.Frame.{normal, threeOf, messageIn, contentIn, replyOf}
+use Rattle.frames.specs.Frame.{normal, threeOf, contentIn, replyOf}
 use Rattle.frames.proofs.Promised.{reply}
 use Rattle.table.specs.declared.Message.{Message}
 use Rattle.table.specs.declared.Named.the-variants.{Known}

@@ -1,42 +1,41 @@
 -- Every test call is found whole and said back.
 use Prim.Native.Nat.{ℕ, _+_, _-_, _/_, _%_, _<_}
 use mathlib.Core.Path.{_≡_, refl, sym, ap, ap₂, _∙_}
-use mathlib.Core.Bool.{Bool, true, false, cond, not, _||_}
+use mathlib.Core.Bool.{Bool, true, false, cond, not}
 use mathlib.Core.List.{List, [], _∷_, _++_}
 use native.Mathlib.Nat.{add-sub-cancel-left}
 use native.Mathlib.Omega.{arith}
-use lib.Dec.{eqb}
 use lib.ListN.{length, take, drop, getD, length-append, length-drop}
-use lib.Seq.{length-take-le, take-at, drop-at}
-use borrow.Author.Tests.{le-leb, eq-eqb, ne-eqb, eqb-true}
-use Rattle.digits.specs.Digits.{byteOf, digitsOf, allDigits, isDigit}
+use lib.Seq.{length-take-le, take-at, drop-at, drop-append-le}
+use borrow.Author.Tests.{le-ltb, le-leb, eq-eqb, eqb-true}
+use Rattle.digits.specs.Digits.{byteOf, isDigit}
 use Rattle.digits.specs.Text.{text}
 use Rattle.digits.proofs.Inverse.{inverse, and-left}
 use Rattle.digits.proofs.OneDigit.{least}
-use Rattle.frames.specs.Frame.{CR, LF, normal, replyOf, contentIn, scOf, isTestID, testCallFits}
+use Rattle.frames.specs.Frame.{CR, LF, normal, replyOf, messageIn, contentIn, scOf, shaped}
 use Rattle.frames.proofs.TestID.{test-id}
 use Rattle.finder.specs.declared.Found.{Found}
 use Rattle.finder.specs.declared.Found.the-variants.{Frame}
-use Rattle.finder.specs.Find.{pairFirst, beginsTestCall, findIn, partOf}
-use Rattle.finder.specs.Laws.{Quiet}
-use Rattle.finder.proofs.Promised.{test-call-found, found-as-before}
+use Rattle.finder.specs.Find.{findIn, partOf}
+use Rattle.finder.specs.Laws.{Head, lastTwo, Quiet}
+use Rattle.finder.proofs.Promised.{test-call-rule, found-as-before}
 use Rattle.kinds.specs.declared.Held.{Held}
 use Rattle.kinds.specs.Kinds.{heldIn}
 use Rattle.table.specs.declared.Named.{Named}
-use Rattle.messages.specs.declared.Asked.{Asked}
 use Rattle.messages.specs.Asked.{askedOf, judged, numberGiven}
 use Rattle.messages.proofs.Judged.{Right, ordered}
 use Rattle.calls.specs.Calls.{Areas, Sent, Call, Outcome, callOf, lengthsOf}
-use Rattle.refusals.specs.Refusals.{silentOf}
-use Rattle.refusals.proofs.Rows.{AreasPass, area-rows, areas-pass, call-passed}
+use Rattle.refusals.specs.Refusals.{axesFit, silentOf}
+use Rattle.refusals.proofs.Rows.{area-rows, areas-pass, past-areas, frameNumber, silent-is, call-passed}
 use Rattle.refusals.proofs.Tested.{shape}
 use Rattle.link.specs.Answer.{held, asked, answerOf}
+use Rattle.link.proofs.Answering.{silent-answer}
 use Rattle.demands.specs.Refused.{asksWrite}
 use Rattle.demands.specs.History.{ours}
-use Rattle.demands.specs.Reading.{before as beforeSC, commandOf, asking, Host, Says}
-use Rattle.demands.specs.TestCalls.{testCall, toFound, SaidBack, EveryTestCall, NoErrorReply, TestCalls}
+use Rattle.demands.specs.Reading.{before as beforeSC, asking, Host}
+use Rattle.demands.specs.TestCalls.{testCall, toFound, SaidBack, EveryTestCall, OtherLength, NoErrorReply, TestCalls}
 use Rattle.demands.proofs.Refused.{answer-either, silent-low, query-changes-nothing}
-use Rattle.demands.proofs.Commands.{testFits, framed, framed-long, ends, before-long, is-message, Heard, testing, message-of, named}
+use Rattle.demands.proofs.Commands.{testFits, framed, framed-long, ends, before-long, Heard, testing, message-of, named}
 use Rattle.demands.proofs.Replied.{test-call-back}
 use Rattle.demands.proofs.Asking.{Open, orderOf, is-heard, order, accepts}
 
@@ -67,18 +66,19 @@ module _ (station : ℕ) (ten sc : List ℕ) (l : length ten ≡ 10) (two : leng
   frame-long : length frame ≡ 20
   frame-long = omega (arith, framed-long station said sc two, said-long)
 
-  -- its station's digits aren't CR LF
-  not-pair : pairFirst (drop 1 frame) ≡ false
-  not-pair =
-      let a = byteOf (station / 16 % 16) in
-      let d = least a (and-left (isDigit a) _ (inverse 2 .are-digits station)) in
-      rw (ne-eqb a CR (λ q. omega (arith, d, q)))
+  -- whatever follows: its head, by its fields (a digit of its station isn't CR), and its last two bytes
+  module _ (behind : List ℕ) where
+    headed : Head (frame ++ behind)
+    headed =
+        let a = byteOf (station / 16 % 16) in
+        let d = least a (and-left (isDigit a) _ (inverse 2 .are-digits station)) in
+        record { bang = refl; station = λ e. omega (arith, d, ap (λ (l : List ℕ). getD l 0 0) e); id = refl }
 
-  begins : beginsTestCall frame ≡ true
-  begins = rw (not-pair, test-id frame .1 (is-message station said sc two (omega arith)))
-
-  last-two : drop 18 frame ≡ CR ∷ LF ∷ []
-  last-two = ap (drop 18) (ends station said sc two) ∙ drop-at (beforeSC station said ++ sc) (CR ∷ LF ∷ []) 18 (omega (arith, before-long station said sc two, said-long))
+    last-two : lastTwo (frame ++ behind) ≡ CR ∷ LF ∷ []
+    last-two =
+        let e : drop 18 frame ≡ CR ∷ LF ∷ [] =
+        ap (drop 18) (ends station said sc two) ∙ drop-at (beforeSC station said ++ sc) (CR ∷ LF ∷ []) 18 (omega (arith, before-long station said sc two, said-long)) in
+        ap (take 2) (drop-append-le 18 frame behind (omega (arith, frame-long)) ∙ ap (λ (l : List ℕ). l ++ behind) e)
 
 -- both SCs have two bytes
 two-bytes : (checked : Bool) (s : List ℕ) → length (cond checked (scOf s) (text "@@")) ≡ 2
@@ -123,8 +123,9 @@ module _ (a : Areas) (o : Open a) (h : Sent) (host : Host h) (checked : Bool) (t
 
     is-found : findIn line ≡ Frame (length before) (length before + 20)
     is-found =
-        test-call-found before bytes behind q (frame-long (h .settings .station) ten sc l two) refl (begins (h .settings .station) ten sc l two)
-        (last-two (h .settings .station) ten sc l two)
+        test-call-rule .found before (bytes ++ behind) q (headed (h .settings .station) ten sc l two behind)
+        (omega (arith, length-append bytes behind, frame-long (h .settings .station) ten sc l two))
+        (last-two (h .settings .station) ten sc l two behind)
 
     is-whole : partOf (findIn line) line ≡ bytes
     is-whole =
@@ -150,24 +151,53 @@ every-test-call : EveryTestCall findIn ours
 every-test-call a e h host checked ten before behind l q =
     said-back a (areas-pass (lengthsOf a) (a .journal) (a .kept) (sym (area-rows (lengthsOf a) (a .journal) (a .kept)) ∙ e) .0) h host checked ten l before behind q
 
--- a frame with the ID '200' that is heard has 20 bytes, and is accepted
-module _ (c : Call) (e : isTestID (c .sent .frame) ≡ true) where
-  twenty : testCallFits (c .sent .frame) ≡ true → length (c .sent .frame) ≡ 20
-  twenty f = eqb-true _ _ (rw e at f)
+-- a shaped frame whose ID is '200' has 20 bytes
+twenty : (f : List ℕ) → messageIn f ≡ text "200" → shaped f ≡ true → length f ≡ 20
+twenty f e s = eqb-true _ _ (rw (test-id f .1 e) at (shape f s .test-call))
 
+other-length : OtherLength ours
+other-length a e h host f m n =
+    let o = areas-pass (lengthsOf a) (a .journal) (a .kept) (sym (area-rows (lengthsOf a) (a .journal) (a .kept)) ∙ e) .0 in
+    let c = callOf f (h .axes) (h .settings) (h .reply) a in
+    let six : silentOf c ≡ 6 =
+    silent-is c
+    ∙ rw (
+      le-ltb (length (h .reply)) 1024 (host .reply-long),
+      past-areas (lengthsOf a) (a .journal) (a .kept) o (cond (not (axesFit (h .axes) (h .settings .fitted))) 5 (frameNumber (h .settings .station) f 0)),
+      host .axes-fit,
+      no-shape,
+    ) in
+    silent-answer c 6 (sym six) (λ z. omega (arith, z))
+  where
+    no-shape : shaped f ≡ false
+    no-shape = go (shaped f) refl
+      where
+        go : (b : Bool) → shaped f ≡ b → shaped f ≡ false
+        go true s = absurd (n (twenty f m s))
+        go false s = s
+
+-- one that is heard is accepted
+module _ (c : Call) (e : messageIn (c .sent .frame) ≡ text "200") where
   taken : silentOf c ≡ 0 → numberGiven (asked c) ≡ 0
   unfolding askedOf
   taken z =
       let f = c .sent .frame in
-      let n = twenty (shape f (call-passed c z .shape) .test-call) in
+      let n = twenty f e (call-passed c z .shape) in
       let t : length (contentIn f) ≡ 10 = length-take-le (length f - 10) (drop 6 f) (simp length-drop (omega arith)) ∙ omega arith in
-      let m = message-of f (text "200") (test-id f .0 e) ∙ named .5 in
+      let m = message-of f (text "200") e ∙ named .5 in
       ap (λ (x : Named). numberGiven (judged (held c) (c .sent .settings .fitted) x (contentIn f))) m
       ∙ ap numberGiven (ordered (held c) (c .sent .settings .fitted) testing (contentIn f) (right-ten (held c) (c .sent .settings .fitted) (contentIn f) t))
 
-no-error-reply : NoErrorReply
+no-error-reply : NoErrorReply ours
 no-error-reply c e =
     answer-either c (λ (o : Outcome). o .number < 101) (λ z. omega (arith, taken c e z)) (λ _. omega (arith, silent-low c))
 
 pub test-calls : TestCalls
-test-calls = record { every-test-call = every-test-call; no-error-reply = no-error-reply; found-as-before = found-as-before }
+test-calls =
+    record {
+      rule = test-call-rule;
+      found-as-before = found-as-before;
+      every-test-call = every-test-call;
+      other-length = other-length;
+      no-error-reply = no-error-reply;
+    }

@@ -1,19 +1,19 @@
 -- Demand 2 of test calls: "The maker says the ten bytes of 200H are arbitrary. [..] Demand 2 reads so from here." (02, c)
 use Prim.Native.Nat.{ℕ, _+_, _<_}
 use mathlib.Core.Path.{_≡_}
-use mathlib.Core.Bool.{Bool, true}
+use mathlib.Core.Bool.{Bool}
 use mathlib.Core.List.{List, _++_}
 use lib.ListN.{length}
 use Rattle.digits.specs.Text.{text}
-use Rattle.frames.specs.Frame.{normal, isTestID, replyOf}
+use Rattle.frames.specs.Frame.{normal, messageIn, replyOf}
 use Rattle.finder.specs.declared.Found.{Found}
 use Rattle.finder.specs.declared.Found.the-variants.{Frame}
 use Rattle.finder.specs.Find.{findIn, partOf}
-use Rattle.finder.specs.Laws.{Quiet, FoundAsBefore}
+use Rattle.finder.specs.Laws.{Quiet, TestCallRule, FoundAsBefore}
 use Rattle.messages.specs.Rows.{firstOf}
 use Rattle.calls.specs.Calls.{Areas, Sent, Call, Outcome, callOf, lengthsOf}
 use Rattle.refusals.specs.Refusals.{areaRows}
-use Rattle.link.specs.Answer.{answerOf}
+use Rattle.link.specs.Answer.{unanswered}
 use Rattle.demands.specs.History.{Conduct, ours}
 use Rattle.demands.specs.Reading.{commandOf, Host}
 
@@ -41,12 +41,21 @@ EveryTestCall find board =
     → length ten ≡ 10 → Quiet before
     → SaidBack find board a h (testCall h checked ten) ten (length before) (before ++ (testCall h checked ten ++ behind))
 
--- a frame with the ID '200' gets no error reply, so 103 "is never a 200H's": it is accepted, or refused without a reply
-abbrev pub NoErrorReply : Type 0
-NoErrorReply = (c : Call) → isTestID (c .sent .frame) ≡ true → answerOf c .number < 101
+-- "6 also covers a 200H frame of another length" (02, c): over areas that no test refuses, from any host that is heard, whatever its station bytes and
+-- its SC are
+abbrev pub OtherLength : Conduct → Type 0
+OtherLength board =
+    (a : Areas) → firstOf (areaRows (lengthsOf a) (a .journal) (a .kept)) ≡ 0 → (h : Sent) → Host h → (frame : List ℕ)
+    → messageIn frame ≡ text "200" → (length frame ≡ 20 → ⊥) → board .answer (callOf frame (h .axes) (h .settings) (h .reply) a) ≡ unanswered 6 a
 
--- test calls, and "any frame of document 01 whose ID isn't '200' is found as before"
+-- so no call with a 200H has an error reply, and none is refused 103: it is accepted, or refused without a reply
+abbrev pub NoErrorReply : Conduct → Type 0
+NoErrorReply board = (c : Call) → messageIn (c .sent .frame) ≡ text "200" → board .answer c .number < 101
+
+-- test calls, and every frame of another ID found as before
 pub record TestCalls : Type 0 where
+  pub rule : TestCallRule findIn
+  pub found-as-before : FoundAsBefore findIn
   pub every-test-call : EveryTestCall findIn ours
-  pub no-error-reply : NoErrorReply
-  pub found-as-before : (received : List ℕ) → FoundAsBefore received
+  pub other-length : OtherLength ours
+  pub no-error-reply : NoErrorReply ours

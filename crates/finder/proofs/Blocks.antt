@@ -1,17 +1,16 @@
 -- Looking for a byte block by block.
 use Prim.Native.Nat.{ℕ, zero, suc, _+_, _-_, _≤_, _<_, compare·suc-suc}
-use mathlib.Core.Path.{_≡_, refl, sym, ap, _∙_}
+use mathlib.Core.Path.{_≡_, sym, ap, _∙_}
 use mathlib.Core.Bool.{Bool, true, false, cond, _||_}
 use mathlib.Core.List.{List, [], _∷_}
 use native.Mathlib.Omega.{arith}
 use native.Mathlib.Numerals.{add-one}
-use native.Mathlib.Nat.{add-sub-cancel-left, zero-add}
+use native.Mathlib.Nat.{add-sub-cancel-left}
 use lib.ListN.{length, take, drop, getD, drop-of-length-le, length-drop}
-use lib.Seq.{drop-cons, drop-drop, take-all}
+use lib.Seq.{drop-cons, drop-drop}
 use lib.Dec.{ltb, eqb}
 use borrow.Author.Tests.{lt-ltb, ltb-false, eq-eqb, ne-eqb}
-use Rattle.frames.specs.Frame.{CR}
-use Rattle.finder.specs.Find.{placeOf, pairOf}
+use Rattle.finder.specs.Find.{placeOf}
 use Rattle.frames.proofs.Bools.{or-true, or-false}
 
 -- a byte stands in these bytes

@@ -5,22 +5,22 @@ use mathlib.Core.Bool.{Bool, true, false, cond, not, _&&_}
 use mathlib.Core.List.{List, [], _∷_, _++_, append-assoc}
 use native.Mathlib.Nat.{add-zero}
 use native.Mathlib.Omega.{arith}
-use lib.Dec.{ltb, leb, eqb}
-use lib.ListN.{length, take, drop, getD, length-append, length-drop, List·getD-append}
-use lib.Seq.{drop-append-add, drop-append-le, take-at, getD-drop}
-use borrow.Author.Tests.{lt-ltb, le-ltb, le-leb, ltb-true, ltb-false, eq-eqb, ne-eqb, eqb-true}
-use Rattle.frames.specs.Frame.{command, CR, LF, isTestID}
+use lib.Dec.{ltb, eqb}
+use lib.ListN.{length, take, drop, getD, length-append, length-drop}
+use lib.Seq.{drop-append-add, getD-drop}
+use borrow.Author.Tests.{lt-ltb, le-ltb, le-leb, lt-leb, ltb-true, ltb-false, eq-eqb, ne-eqb, eqb-true}
+use Rattle.frames.specs.Frame.{command, CR, LF, hasTestID}
 use Rattle.digits.proofs.Bools.{either, was-false, was-not}
 use Rattle.digits.proofs.Inverse.{and-left, and-right}
 use Rattle.frames.proofs.Bools.{and-false}
-use Rattle.frames.proofs.TestID.{by-bytes, six, front-same}
+use Rattle.frames.proofs.TestID.{by-bytes, six, front-same, test-id}
 use Rattle.finder.specs.declared.Found.{Found}
 use Rattle.finder.specs.declared.Found.the-variants.{Frame, Nothing, Wait, TooLong}
 use Rattle.finder.specs.Find.{placeOf, pairFirst, pairOf, beginsTestCall, skipped, skipOf, fromIt, windowOf, byLength, byPair, findIn, partOf}
-use Rattle.finder.specs.Laws.{FullWindow, Quiet, laterBy, LooksOn, TestCallFound, findBefore, AsBefore, FoundAsBefore}
+use Rattle.finder.specs.Laws.{FullWindow, Head, lastTwo, Quiet, findBefore, laterBy, TestCallRule, FoundAsBefore}
 use Rattle.finder.proofs.Search.{rest-is, stands-there}
 use Rattle.finder.proofs.Turns.{not-CR}
-use Rattle.finder.proofs.Finding.{is-whole, is-long}
+use Rattle.finder.proofs.Finding.{is-cut, is-whole, is-long}
 
 pub full-window : (received : List ℕ) → FullWindow received
 full-window s h t l k =
@@ -92,56 +92,77 @@ quiet-skip (x ∷ t) s q = go (eqb x command) q (quiet-skip t s)
     go true q ih = absurd (omega (arith, q))
     go false q ih = omega (arith, ih (omega (arith, q)))
 
-pub looks-on : (before bytes : List ℕ) → LooksOn before bytes
-looks-on before bytes q t =
-    ap findIn (sym (append-assoc before (command ∷ []) bytes))
-    ∙ later (before ++ (command ∷ [])) bytes (ap skipOf (append-assoc before (command ∷ []) bytes) ∙ quiet-skip before (command ∷ bytes) q ∙ one)
-    ∙ ap (λ (n : ℕ). laterBy n (findIn bytes)) (length-append before (command ∷ []))
+-- a truth value is not both
+differ : {b : Bool} → b ≡ true → b ≡ false → ⊥
+differ t f = let z : _≡_ {A = ℕ} 0 1 = ap (λ (b : Bool). cond b 0 1) (sym t ∙ f) in omega (arith, z)
+
+-- CR LF at the front, by its two bytes
+pair-two : (s : List ℕ) → pairFirst s ≡ true → take 2 s ≡ CR ∷ LF ∷ []
+pair-two [] e = absurd (differ e refl)
+pair-two (x ∷ []) e = absurd (differ e refl)
+pair-two (x ∷ y ∷ s) e = rw (eqb-true x CR (and-left (eqb x CR) (eqb y LF) e), eqb-true y LF (and-right (eqb x CR) (eqb y LF) e))
+
+two-pair : (s : List ℕ) → take 2 s ≡ CR ∷ LF ∷ [] → pairFirst s ≡ true
+two-pair [] e = absurd (omega (arith, ap length e))
+two-pair (x ∷ []) e = absurd (omega (arith, ap length e))
+two-pair (x ∷ y ∷ s) e = rw (eq-eqb x CR (ap (λ (l : List ℕ). getD l 0 0) e), eq-eqb y LF (ap (λ (l : List ℕ). getD l 1 0) e))
+
+not-two : (s : List ℕ) → (take 2 s ≡ CR ∷ LF ∷ [] → ⊥) → pairFirst s ≡ false
+not-two s n = go (pairFirst s) refl
   where
-    one : length before + skipOf (command ∷ bytes) ≡ length (before ++ (command ∷ [])) + skipOf bytes
-    one = rw t (simp length-append (omega arith))
+    go : (b : Bool) → pairFirst s ≡ b → pairFirst s ≡ false
+    go true e = absurd (n (pair-two s e))
+    go false e = e
 
--- more behind two bytes leaves them a pair, or none
-pair-behind : (s behind : List ℕ) → 2 ≤ length s → pairFirst (s ++ behind) ≡ pairFirst s
-pair-behind [] behind h = absurd (omega arith)
-pair-behind (x ∷ []) behind h = absurd (omega arith)
-pair-behind (x ∷ y ∷ s) behind h = refl
+-- a head by its fields, and as the finder asks for it
+begins : (d : List ℕ) → Head d → beginsTestCall d ≡ true
+begins d h = rw (not-two (drop 1 d) (h .station), test-id d .1 (h .id))
 
--- and more behind a test call leaves it one
-call-behind : (f behind : List ℕ) → length f ≡ 20 → beginsTestCall (f ++ behind) ≡ beginsTestCall f
-call-behind f behind l =
-    ap₂ (λ (p t : Bool). not p && t)
-    (ap pairFirst (drop-append-le 1 f behind (omega arith)) ∙ pair-behind (drop 1 f) behind (simp length-drop (omega arith)))
-    (sym (front-same 20 (f ++ behind) (omega arith)) ∙ ap isTestID (take-at f behind 20 l))
+head : (d : List ℕ) → getD d 0 0 ≡ command → beginsTestCall d ≡ true → Head d
+head d e t =
+    record {
+      bang = e;
+      station = λ q. differ (two-pair (drop 1 d) q) (was-false refl (and-left (not (pairFirst (drop 1 d))) (hasTestID d) t));
+      id = test-id d .0 (and-right (not (pairFirst (drop 1 d))) (hasTestID d) t);
+    }
 
 -- a '!' that stays is the first
 stays-first : (s : List ℕ) → 1 ≤ length s → getD s 0 0 ≡ command → skipped s ≡ false → 0 ≡ skipOf s
 stays-first [] h e t = absurd (omega arith)
 stays-first (x ∷ s) h e t = rw (eq-eqb x command e, t)
 
-pub test-call-found : (before frame behind : List ℕ) → TestCallFound before frame behind
-test-call-found before frame behind q l e t p =
-    later before s (quiet-skip before s q) ∙ ap (laterBy (length before)) (sym whole) ∙ ap₂ Frame (omega arith) (omega arith)
+-- behind bytes without '!', at the head of a test call
+module _ (before bytes : List ℕ) (q : Quiet before) (h : Head bytes) where
+  six-there : 6 ≤ length bytes
+  six-there = six bytes (test-id bytes .1 (h .id))
+
+  call : beginsTestCall (take (length bytes - 0) (drop 0 bytes)) ≡ true
+  call = ap beginsTestCall (rest-is bytes 0) ∙ begins bytes h
+
+  found : 20 ≤ length bytes → lastTwo bytes ≡ CR ∷ LF ∷ [] → findIn (before ++ bytes) ≡ Frame (length before) (length before + 20)
+  found l p =
+      let stays-so : skipped bytes ≡ false = rw (begins bytes h, two-pair (drop 18 bytes) p, le-leb 20 (length bytes) l) in
+      let whole = is-whole bytes 0 (stays-first bytes (omega arith) (h .bang) stays-so) (omega arith) call (omega (arith, ap length (rest-is bytes 0))) in
+      later before bytes (quiet-skip before bytes q) ∙ ap (laterBy (length before)) (sym whole) ∙ ap₂ Frame (omega arith) (omega arith)
+
+  waits : length bytes < 20 → findIn (before ++ bytes) ≡ Wait (length before)
+  waits l =
+      let stays-so : skipped bytes ≡ false = rw (begins bytes h, lt-leb 20 (length bytes) l) in
+      let cut = is-cut bytes 0 (stays-first bytes (omega (arith, six-there)) (h .bang) stays-so) (omega (arith, six-there)) call (omega (arith, ap length (rest-is bytes 0))) in
+      later before bytes (quiet-skip before bytes q) ∙ ap (laterBy (length before)) (sym cut) ∙ ap Wait (omega arith)
+
+looks-on : (before bytes : List ℕ) → Quiet before → Head (command ∷ bytes) → 19 ≤ length bytes → (lastTwo (command ∷ bytes) ≡ CR ∷ LF ∷ [] → ⊥)
+    → findIn (before ++ (command ∷ bytes)) ≡ laterBy (length before + 1) (findIn bytes)
+looks-on before bytes q h l n =
+    ap findIn (sym (append-assoc before (command ∷ []) bytes))
+    ∙ later (before ++ (command ∷ [])) bytes (ap skipOf (append-assoc before (command ∷ []) bytes) ∙ quiet-skip before (command ∷ bytes) q ∙ one)
+    ∙ ap (λ (k : ℕ). laterBy k (findIn bytes)) (length-append before (command ∷ []))
   where
-    s : List ℕ
-    s = frame ++ behind
+    gone : skipped (command ∷ bytes) ≡ true
+    gone = rw (begins (command ∷ bytes) h, not-two (drop 18 (command ∷ bytes)) n, le-leb 20 (length (command ∷ bytes)) (omega arith))
 
-    long : length s ≡ 20 + length behind
-    long = length-append frame behind ∙ ap (λ (n : ℕ). n + length behind) l
-
-    is-call : beginsTestCall s ≡ true
-    is-call = call-behind frame behind l ∙ t
-
-    ends : pairFirst (drop 18 s) ≡ true
-    ends = ap pairFirst (drop-append-le 18 frame behind (omega arith) ∙ ap (λ (r : List ℕ). r ++ behind) p)
-
-    stays-so : skipped s ≡ false
-    stays-so = rw (is-call, ends, le-leb 20 (length s) (omega (arith, long)))
-
-    whole : Frame 0 20 ≡ findIn s
-    whole =
-        is-whole s 0 (stays-first s (omega (arith, long)) (List·getD-append frame behind 0 0 (omega arith) ∙ e) stays-so) (omega (arith, long))
-        (ap beginsTestCall (rest-is s 0) ∙ is-call) (omega (arith, long, ap length (rest-is s 0)))
+    one : length before + skipOf (command ∷ bytes) ≡ length (before ++ (command ∷ [])) + skipOf bytes
+    one = rw gone (simp length-append (omega arith))
 
 -- where no test call begins at the first '!', it stays
 stays-place : (s : List ℕ) → beginsTestCall (drop (placeOf command s) s) ≡ false → skipOf s ≡ placeOf command s
@@ -154,9 +175,9 @@ stays-place (x ∷ s) t = go (eqb x command) t (stays-place s)
     go true t ih = rw t
     go false t ih = ap suc (ih t)
 
-pub as-before : (received : List ℕ) → AsBefore received
+no-call : (received : List ℕ) → beginsTestCall (drop (placeOf command received) received) ≡ false → findIn received ≡ findBefore received
 unfolding findIn
-as-before s t = rw (stays-place s t, t)
+no-call s t = rw (stays-place s t, t)
 
 -- one byte on, where no pair begins
 one-on : {k : ℕ} (x : ℕ) (s : List ℕ) → pairFirst (x ∷ s) ≡ false → k ≤ pairOf s → suc k ≤ pairOf (x ∷ s)
@@ -164,10 +185,10 @@ one-on x s e h = rw e (omega arith)
 
 -- no pair begins in the first six bytes of a test call
 six-on : (d : List ℕ) → getD d 0 0 ≡ command → beginsTestCall d ≡ true → 6 ≤ pairOf (take 1023 d)
-six-on d e t = go d e t (six d (and-right (not (pairFirst (drop 1 d))) (isTestID d) t)) (by-bytes d)
+six-on d e t = go d e t (six d (and-right (not (pairFirst (drop 1 d))) (hasTestID d) t)) (by-bytes d)
   where
     go : (d : List ℕ) → getD d 0 0 ≡ command → beginsTestCall d ≡ true → 6 ≤ length d
-        → isTestID d ≡ eqb (getD d 3 0) 0x32 && (eqb (getD d 4 0) 0x30 && eqb (getD d 5 0) 0x30) → 6 ≤ pairOf (take 1023 d)
+        → hasTestID d ≡ eqb (getD d 3 0) 0x32 && (eqb (getD d 4 0) 0x30 && eqb (getD d 5 0) 0x30) → 6 ≤ pairOf (take 1023 d)
     go [] e t h i = absurd (omega arith)
     go (a ∷ []) e t h i = absurd (omega arith)
     go (a ∷ b ∷ []) e t h i = absurd (omega arith)
@@ -176,8 +197,8 @@ six-on d e t = go d e t (six d (and-right (not (pairFirst (drop 1 d))) (isTestID
     go (a ∷ b ∷ c ∷ x ∷ y ∷ []) e t h i = absurd (omega arith)
     go (a ∷ b ∷ c ∷ x ∷ y ∷ z ∷ s) e t h i =
         let p = eqb b CR && eqb c LF in
-        let k = sym i ∙ and-right (not p) (isTestID (a ∷ b ∷ c ∷ x ∷ y ∷ z ∷ s)) t in
-        let n : p ≡ false = was-false refl (and-left (not p) (isTestID (a ∷ b ∷ c ∷ x ∷ y ∷ z ∷ s)) t) in
+        let k = sym i ∙ and-right (not p) (hasTestID (a ∷ b ∷ c ∷ x ∷ y ∷ z ∷ s)) t in
+        let n : p ≡ false = was-false refl (and-left (not p) (hasTestID (a ∷ b ∷ c ∷ x ∷ y ∷ z ∷ s)) t) in
         let m = eqb y 0x30 && eqb z 0x30 in
         let x-is = eqb-true x 0x32 (and-left (eqb x 0x32) m k) in
         let y-is = eqb-true y 0x30 (and-left (eqb y 0x30) (eqb z 0x30) (and-right (eqb x 0x32) m k)) in
@@ -196,8 +217,11 @@ module _ (s : List ℕ) where
   abbrev d : List ℕ
   d = drop (placeOf command s) s
 
+  first : placeOf command s < length s → getD d 0 0 ≡ command
+  first h = getD-drop (placeOf command s) s 0 0 ∙ ap (λ (i : ℕ). getD s i 0) (add-zero (placeOf command s)) ∙ stands-there command s h
+
   abbrev Called : Found → Type 0
-  Called (Frame start used) = isTestID (take (used - start) (drop start s)) ≡ true
+  Called (Frame start used) = hasTestID (take (used - start) (drop start s)) ≡ true
   Called (Nothing drop) = Unit {0}
   Called (Wait drop) = Unit {0}
   Called (TooLong drop) = Unit {0}
@@ -210,20 +234,25 @@ module _ (s : List ℕ) where
       w : List ℕ
       w = take 1023 d
 
-      first : placeOf command s < length s → getD d 0 0 ≡ command
-      first h = getD-drop (placeOf command s) s 0 0 ∙ ap (λ (i : ℕ). getD s i 0) (add-zero (placeOf command s)) ∙ stands-there command s h
-
-      at-pair : placeOf command s < length s → isTestID (take (placeOf command s + (pairOf w + 2) - placeOf command s) d) ≡ true
+      at-pair : placeOf command s < length s → hasTestID (take (placeOf command s + (pairOf w + 2) - placeOf command s) d) ≡ true
       at-pair h =
           let n : placeOf command s + (pairOf w + 2) - placeOf command s ≡ pairOf w + 2 = omega arith in
-          ap (λ (i : ℕ). isTestID (take i d)) n ∙ front-same (pairOf w + 2) d (omega (arith, six-on d (first h) t))
-          ∙ and-right (not (pairFirst (drop 1 d))) (isTestID d) t
+          ap (λ (i : ℕ). hasTestID (take i d)) n ∙ front-same (pairOf w + 2) d (omega (arith, six-on d (first h) t))
+          ∙ and-right (not (pairFirst (drop 1 d))) (hasTestID d) t
 
-  pub found-as-before : FoundAsBefore s
-  found-as-before start used e i = choose (beginsTestCall d) refl
+  -- a test call at the first '!' has its head there
+  headed : beginsTestCall d ≡ true → Head d
+  headed t = head d (first (omega (arith, six d (and-right (not (pairFirst (drop 1 d))) (hasTestID d) t), length-drop (placeOf command s) s))) t
+
+  as-before : (Head d → ⊥) → findIn s ≡ findBefore s
+  as-before n = choose (beginsTestCall d) refl
     where
-      choose : (b : Bool) → beginsTestCall d ≡ b → findIn s ≡ Frame start used
-      choose true t =
-          let z : _≡_ {A = ℕ} 0 1 = ap (λ (b : Bool). cond b 0 1) (sym (subst Called e (called t)) ∙ i) in
-          absurd (omega (arith, z))
-      choose false t = as-before s t ∙ e
+      choose : (b : Bool) → beginsTestCall d ≡ b → findIn s ≡ findBefore s
+      choose true t = absurd (n (headed t))
+      choose false t = no-call s t
+
+pub test-call-rule : TestCallRule findIn
+test-call-rule = record { found = found; waits = waits; looks-on = looks-on; as-before = as-before }
+
+pub found-as-before : FoundAsBefore findIn
+found-as-before s start used e i = as-before s (λ h. i (test-id (partOf (Frame start used) s) .0 (subst (Called s) e (called s (begins (d s) h))))) ∙ e

@@ -1,8 +1,8 @@
 -- One turn of each search.
-use Prim.Native.Nat.{ℕ, zero, suc, _+_, _-_, _%_, _≤_, _<_}
-use mathlib.Core.Path.{_≡_, refl, sym, ap, _∙_}
-use mathlib.Core.Bool.{Bool, true, false, cond, _&&_}
-use mathlib.Core.List.{List, [], _∷_, _++_}
+use Prim.Native.Nat.{ℕ, suc, _+_, _-_, _≤_, _<_}
+use mathlib.Core.Path.{_≡_, refl}
+use mathlib.Core.Bool.{false}
+use mathlib.Core.List.{List, [], _∷_}
 use native.Mathlib.Omega.{arith}
 use native.Mathlib.Numerals.{add-one}
 use lib.ListN.{length, drop, getD, drop-of-length-le}
@@ -10,7 +10,7 @@ use lib.Seq.{drop-cons}
 use lib.Dec.{eqb}
 use borrow.Author.Tests.{eq-eqb, ne-eqb}
 use Rattle.frames.specs.Frame.{CR, LF}
-use Rattle.finder.specs.Find.{placeOf, pairFirst, pairOf}
+use Rattle.finder.specs.Find.{placeOf, pairFirst}
 
 -- no pair at the front without CR
 pub not-CR : (x : ℕ) (t : List ℕ) → (x ≡ CR → ⊥) → pairFirst (x ∷ t) ≡ false

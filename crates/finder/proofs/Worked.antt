@@ -1,11 +1,11 @@
 -- The worked cases, by computing.
 use mathlib.Core.Path.{refl}
-use Rattle.frames.specs.Frame.{isTestID}
+use Rattle.frames.specs.Frame.{hasTestID}
 use Rattle.finder.specs.Find.{findIn}
 use Rattle.finder.specs.Cases.{Cases}
 
 pub cases : Cases
-unfolding isTestID findIn
+unfolding hasTestID findIn
 cases =
     record {
       empty = refl;
@@ -15,11 +15,14 @@ cases =
       long = refl;
       not-yet = refl;
       line-ends = refl;
+      nineteen = refl;
       cut = refl;
-      id-cut = refl;
+      head-cut = refl;
+      other-id = refl;
       frame-behind = refl;
       wait-behind = refl;
-      none-behind = refl;
       long-behind = refl;
+      none-behind = refl;
       station = refl;
+      two-returns = refl;
     }

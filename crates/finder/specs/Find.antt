@@ -6,7 +6,7 @@ use lib.ListN.{length, take, drop}
 use lib.Dec.{ltb, leb, eqb}
 use Rattle.finder.specs.declared.Found.{Found}
 use Rattle.finder.specs.declared.Found.the-variants.{Frame, Nothing, Wait, TooLong}
-use Rattle.frames.specs.Frame.{command, CR, LF, isTestID}
+use Rattle.frames.specs.Frame.{command, CR, LF, hasTestID}
 
 -- where a byte first stands, or the length with none
 abbrev pub placeOf : ℕ → List ℕ → ℕ
@@ -26,13 +26,13 @@ pairOf (x ∷ s) = cond (pairFirst (x ∷ s)) 0 (suc (pairOf s))
 
 -- a test call begins so: "after '!', two bytes that aren't CR LF, and '200'" (02, c)
 abbrev pub beginsTestCall : List ℕ → Bool
-beginsTestCall bytes = not (pairFirst (drop 1 bytes)) && isTestID bytes
+beginsTestCall bytes = not (pairFirst (drop 1 bytes)) && hasTestID bytes
 
 -- "the frame is 20 bytes long, and CR LF must be its last two [..] where its last two aren't CR LF, the '!' is skipped" (02, c)
 abbrev pub skipped : List ℕ → Bool
 skipped bytes = beginsTestCall bytes && (leb 20 (length bytes) && not (pairFirst (drop 18 bytes)))
 
--- "Skip to the first '!' (21H)" that isn't skipped: "the same call looks on from the byte after it" (02, c)
+-- "Skip to the first '!' (21H)", and past each where "the same call looks on from the byte after it" (02, c)
 abbrev pub skipOf : List ℕ → ℕ
 skipOf [] = 0
 skipOf (x ∷ s) = cond (eqb x command && not (skipped (x ∷ s))) 0 (suc (skipOf s))
@@ -45,7 +45,7 @@ fromIt received = drop (skipOf received) received
 abbrev pub windowOf : List ℕ → List ℕ
 windowOf received = take 1023 (fromIt received)
 
--- "With fewer than 20 bytes there, wait" (02, c), "and drop what stood before it"
+-- "With fewer than 20 bytes there, wait" (02, c), "and drop what stood before it"; else it is the frame: its '!' isn't skipped, so its last two are CR LF
 abbrev pub byLength : ℕ → List ℕ → Found
 byLength before bytes = cond (ltb (length bytes) 20) (Wait before) (Frame before (before + 20))
 

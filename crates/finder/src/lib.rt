@@ -1,5 +1,5 @@
 // Finding a frame in the received bytes (document 01, "Finding a frame in the received bytes"; document 02, c).
-use frames::checks::is_test_id;
+use frames::checks::has_test_id;
 ghost use mathlib.Core.Path.{_≡_};
 ghost use Prim.Native.Nat.{_+_, _-_, _≤_, _<_};
 ghost use lib.ListN.{length, take, drop};
@@ -36,7 +36,7 @@ fn has(block: &[u8], b: u8) -> bool
 }
 
 // How many bytes are passed by whole blocks in which a byte doesn't stand: a block costs about as much as four bytes one by one.
-fn skip(s: &[u8], b: u8) -> usize
+fn pass_blocks(s: &[u8], b: u8) -> usize
     ensures { λ r. ⌜ (r ≤ length (now (s .entry))) × (r + placeOf b (drop r (now (s .entry))) ≡ placeOf b (now (s .entry))) ⌝ }
 {
     let mut passed = 0;
@@ -53,7 +53,7 @@ fn skip(s: &[u8], b: u8) -> usize
 fn place(s: &[u8], b: u8) -> usize
     ensures { λ r. ⌜ r ≡ placeOf b (now (s .entry)) ⌝ }
 {
-    let mut i = skip(s, b);
+    let mut i = pass_blocks(s, b);
     while i < s.len() {
         if s[i] == b {
             return i;
@@ -100,7 +100,7 @@ fn pair(s: &[u8]) -> usize
 fn begins_test_call(bytes: &[u8]) -> bool
     ensures { λ r. ⌜ r ≡ beginsTestCall (now (bytes .entry)) ⌝ }
 {
-    if !is_test_id(bytes) {
+    if !has_test_id(bytes) {
         return false;
     }
     !pair_at(bytes, 1)

@@ -1,7 +1,6 @@
 -- A test call's ID, by its bytes, and the length that test 6 asks of it (02, c).
 use Prim.Native.Nat.{ℕ, _+_, _<_, _≤_}
 use mathlib.Core.Path.{_≡_, refl, sym, ap, _∙_}
-use mathlib.Core.Logic.{_↔_}
 use mathlib.Core.Bool.{Bool, true, false, cond, _&&_}
 use mathlib.Core.List.{List, [], _∷_}
 use native.Mathlib.Omega.{arith}
@@ -11,7 +10,7 @@ use lib.Seq.{getD-take, getD-drop}
 use borrow.Author.Tests.{eqb-true, ltb-true, ltb-false}
 use Rattle.digits.specs.Text.{text}
 use Rattle.digits.proofs.Inverse.{and-left, and-right}
-use Rattle.frames.specs.Frame.{messageIn, isTestID}
+use Rattle.frames.specs.Frame.{messageIn, hasTestID}
 use Rattle.frames.specs.Laws.{TestID}
 use Rattle.frames.proofs.Bools.{and-false}
 
@@ -20,18 +19,18 @@ module _ (f : List ℕ) where
   in-frame : (i : ℕ) → i < 3 → getD (messageIn f) i 0 ≡ getD f (3 + i) 0
   in-frame i h = getD-take 3 (drop 3 f) i 0 h ∙ getD-drop 3 f i 0
 
-  pub by-bytes : isTestID f ≡ eqb (getD f 3 0) 0x32 && (eqb (getD f 4 0) 0x30 && eqb (getD f 5 0) 0x30)
-  unfolding isTestID
+  pub by-bytes : hasTestID f ≡ eqb (getD f 3 0) 0x32 && (eqb (getD f 4 0) 0x30 && eqb (getD f 5 0) 0x30)
+  unfolding hasTestID
   by-bytes = rw (in-frame 0 (omega arith), in-frame 1 (omega arith), in-frame 2 (omega arith))
 
   -- with fewer than six bytes the ID isn't all there
-  pub cut : length f < 6 → isTestID f ≡ false
+  pub cut : length f < 6 → hasTestID f ≡ false
   cut h =
       by-bytes
       ∙ rw (List·getD-eq-default f 0 {n = 5} (omega arith), and-false (eqb (getD f 4 0) 0x30), and-false (eqb (getD f 3 0) 0x32))
 
   -- so where it is, six are there
-  pub six : isTestID f ≡ true → 6 ≤ length f
+  pub six : hasTestID f ≡ true → 6 ≤ length f
   six e = go (ltb (length f) 6) refl
     where
       go : (b : Bool) → ltb (length f) 6 ≡ b → 6 ≤ length f
@@ -42,12 +41,12 @@ module _ (f : List ℕ) where
 abbrev pub is200 : List ℕ → Bool
 is200 id = eqb (getD id 0 0) 0x32 && (eqb (getD id 1 0) 0x30 && eqb (getD id 2 0) 0x30)
 
-pub by-message : (f id : List ℕ) → messageIn f ≡ id → isTestID f ≡ is200 id
-unfolding isTestID
+pub by-message : (f id : List ℕ) → messageIn f ≡ id → hasTestID f ≡ is200 id
+unfolding hasTestID
 by-message f id e = rw e
 
 -- the front of a frame, or a frame with more behind it, has the same ID
-pub front-same : (n : ℕ) (f : List ℕ) → 6 ≤ n → isTestID (take n f) ≡ isTestID f
+pub front-same : (n : ℕ) (f : List ℕ) → 6 ≤ n → hasTestID (take n f) ≡ hasTestID f
 front-same n f h =
     by-bytes (take n f)
     ∙ rw (getD-take n f 3 0 (omega arith), getD-take n f 4 0 (omega arith), getD-take n f 5 0 (omega arith)) (sym (by-bytes f))
@@ -61,7 +60,7 @@ three (x ∷ y ∷ z ∷ []) h a b c = rw (a, b, c)
 three (x ∷ y ∷ z ∷ w ∷ l) h a b c = absurd (omega (arith, h))
 
 pub test-id : (frame : List ℕ) → TestID frame
-unfolding isTestID
+unfolding hasTestID
 test-id frame = (there, λ e. rw e)
   where
     l : List ℕ

@@ -1,11 +1,11 @@
 -- The worked cases, by computing.
 use mathlib.Core.Path.{refl}
 use Rattle.digits.specs.Digits.{isDigit, worthOf, byteOf}
-use Rattle.frames.specs.Frame.{isTestID, shaped, sumTrue, sumOff, sumPasses, stationPasses, replyOf}
+use Rattle.frames.specs.Frame.{hasTestID, shaped, sumTrue, sumOff, sumPasses, stationPasses, replyOf}
 use Rattle.frames.specs.Cases.{Cases}
 
 pub cases : Cases
-unfolding isDigit worthOf byteOf isTestID shaped sumTrue sumOff sumPasses stationPasses replyOf
+unfolding isDigit worthOf byteOf hasTestID shaped sumTrue sumOff sumPasses stationPasses replyOf
 cases =
     record {
       sum = refl;

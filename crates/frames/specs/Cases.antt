@@ -2,7 +2,7 @@
 use mathlib.Core.Path.{_≡_}
 use mathlib.Core.Bool.{true, false}
 use Rattle.digits.specs.Text.{text}
-use Rattle.frames.specs.Frame.{normal, sumOf, scOf, isTestID, shaped, sumPasses, stationPasses, replyOf, errorOf}
+use Rattle.frames.specs.Frame.{normal, sumOf, scOf, hasTestID, shaped, sumPasses, stationPasses, replyOf, errorOf}
 
 pub record Cases : Type 0 where
   -- Proved cases, 1; 000, section 3: "Total sum [..] = 254H", "The checksum is calculated as '54.'"
@@ -22,7 +22,7 @@ pub record Cases : Type 0 where
   pub test-calls :
       (shaped (text "!99200123456789@@\r\n") ≡ false) × (shaped (text "!99200\r\n\r\n!99200@@\r\n") ≡ true) × (shaped (text "!\r\n2000123456789012\r\n") ≡ false)
   pub other : shaped (text "!99201123456789@@\r\n") ≡ true
-  pub id-cut : (isTestID (text "!9920") ≡ false) × (isTestID (text "!99200") ≡ true)
+  pub id-cut : (hasTestID (text "!9920") ≡ false) × (hasTestID (text "!99200") ≡ true)
   pub ours : stationPasses 0x99 (text "!99200001234567829\r\n") ≡ true
   pub not-ours : stationPasses 0x99 (text "!9A200001234567829\r\n") ≡ false
   pub unknown : errorOf 0x99 101 ≡ text "&991012A\r\n"

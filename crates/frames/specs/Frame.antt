@@ -52,13 +52,13 @@ abbrev pub scOf : List ℕ → List ℕ
 scOf before = digitsOf 2 (lowByte before)
 
 -- a test call, by its ID: "'200'" (02, c)
-unfoldable pub isTestID : List ℕ → Bool
-isTestID frame =
+unfoldable pub hasTestID : List ℕ → Bool
+hasTestID frame =
     eqb (getD (messageIn frame) 0 0) 0x32 && (eqb (getD (messageIn frame) 1 0) 0x30 && eqb (getD (messageIn frame) 2 0) 0x30)
 
 -- not "a 200H frame of another length" than 20 (02, c)
 abbrev pub testCallFits : List ℕ → Bool
-testCallFits frame = not (isTestID frame) || eqb (length frame) 20
+testCallFits frame = not (hasTestID frame) || eqb (length frame) 20
 
 -- Test 6, passed: "'!' first, CR LF last, 10 to 1,023 bytes"; "6 also covers a 200H frame of another length" (02, c)
 unfoldable pub shaped : List ℕ → Bool
@@ -92,7 +92,7 @@ stationPasses station frame = saysNumber (stationIn frame) station
 abbrev pub closed : List ℕ → List ℕ
 closed before = before ++ (scOf before ++ (CR ∷ LF ∷ []))
 
--- a reply: header, station, what follows it; it "always carries a true SC" (Frame)
+-- a reply: header, station, what follows it; replies "always carry a true SC" (Frame)
 unfoldable pub replyOf : ℕ → ℕ → List ℕ → List ℕ
 replyOf header station rest = closed (header ∷ (digitsOf 2 station ++ rest))
 

@@ -7,7 +7,7 @@ use mathlib.Core.List.{List, [], _∷_}
 use lib.ListN.{length, drop, getD}
 use Rattle.digits.specs.Digits.{digitsOf}
 use Rattle.digits.specs.Text.{text}
-use Rattle.frames.specs.Frame.{stationIn, messageIn, beforeSC, scIn, scOf, isTestID, sumTrue, sumOff, replyOf, CR, LF}
+use Rattle.frames.specs.Frame.{stationIn, messageIn, beforeSC, scIn, scOf, hasTestID, sumTrue, sumOff, replyOf, CR, LF}
 
 -- Frame: "SC is the low byte of the sum of all bytes before it, as two digits": in four bytes or more, an SC is true just where its two bytes are those digits
 abbrev pub TrueSC : List ℕ → Type 0
@@ -15,7 +15,7 @@ TrueSC frame = 4 ≤ length frame → (sumTrue frame ≡ true) ↔ (scIn frame �
 
 -- 02, c: a frame is a test call just where its ID is '200', and not where fewer bytes are there
 abbrev pub TestID : List ℕ → Type 0
-TestID frame = (isTestID frame ≡ true) ↔ (messageIn frame ≡ text "200")
+TestID frame = (hasTestID frame ≡ true) ↔ (messageIn frame ≡ text "200")
 
 -- Frame: "Replies start '#', or '&' for an error, and always carry a true SC", never '@@'
 pub record Reply (header station : ℕ) (rest : List ℕ) : Type 0 where

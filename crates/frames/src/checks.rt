@@ -3,11 +3,11 @@ use digits::Field;
 ghost use mathlib.Core.Path.{_≡_};
 ghost use Prim.Native.Nat.{_≤_};
 ghost use lib.ListN.{length};
-ghost use Rattle.frames.specs.Frame.{isTestID, shaped, saysNumber, sumTrue, sumOff, sumPasses, stationPasses};
+ghost use Rattle.frames.specs.Frame.{hasTestID, shaped, saysNumber, sumTrue, sumOff, sumPasses, stationPasses};
 
 // A test call: its ID is '200'. With fewer than six bytes the ID isn't all there.
-pub fn is_test_id(frame: &[u8]) -> bool
-    ensures { λ r. ⌜ r ≡ isTestID (now (frame .entry)) ⌝ }
+pub fn has_test_id(frame: &[u8]) -> bool
+    ensures { λ r. ⌜ r ≡ hasTestID (now (frame .entry)) ⌝ }
 {
     if frame.len() < 6 {
         return false;
@@ -44,7 +44,7 @@ pub fn is_shaped(frame: &[u8]) -> bool
     if n == 20 {
         return true;
     }
-    !is_test_id(frame)
+    !has_test_id(frame)
 }
 
 // A field's number is this one.

@@ -1,4 +1,4 @@
--- Document 01, "Refusal numbers, in the order tested", and document 02, request a: 1 to 10 here, 101 to 108 by `askedRows` of messages. Nothing else
+-- Document 01, "Refusal numbers, in the order tested", and document 02, requests a and c: 1 to 10 here, 101 to 108 by `askedRows` of messages. Nothing else
 -- decides a number.
 use Prim.Native.Nat.{ℕ, _+_, _*_, _%_}
 use mathlib.Core.Bool.{Bool, true, not, _&&_}

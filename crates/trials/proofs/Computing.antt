@@ -1,7 +1,7 @@
 -- All that a call computes with, named once: to unfold `a-call` is to unfold what its line names.
 use Rattle.digits.specs.Digits.{isDigit, worthOf, byteOf}
 use Rattle.digits.specs.Laid.{laid}
-use Rattle.frames.specs.Frame.{isTestID, shaped, sumTrue, sumOff, sumPasses, stationPasses, replyOf}
+use Rattle.frames.specs.Frame.{hasTestID, shaped, sumTrue, sumOff, sumPasses, stationPasses, replyOf}
 use Rattle.finder.specs.Find.{findIn}
 use Rattle.kinds.specs.Kinds.{kindOf, holds, runOf, put}
 use Rattle.journal.specs.Journal.{encode, encodes, entryFits, frontOf, whole, entryAt, entriesIn, kept, added, areaOf, lastOf, othersOf, lastEntry, others, puts}
@@ -16,5 +16,5 @@ use Rattle.refusals.specs.Refusals.{pointsFit, variablesFit, journalFits, recor
 use Rattle.link.specs.Answer.{answerOf, backOf}
 
 unfoldable pub a-call : Unit {0}
-unfolding isDigit worthOf byteOf laid isTestID shaped sumTrue sumOff sumPasses stationPasses replyOf findIn kindOf holds runOf put encode encodes entryFits frontOf whole entryAt entriesIn kept added areaOf lastOf othersOf lastEntry others puts axesFrom axesOf positionsOf pointOf lengthOf fillsOf positionBytes slotOf slotsOf positionsIn pointIn effectiveIn positionDigits pointDigits messageNumbered messageOf patternFits patternsFit askedRows judged askedOf listed recordsDigits bitsOf eights pointsFit variablesFit journalFits recordsFit axesFit areaRows frameRows silentRows silentOf refusalOf backRows backRefusalOf answerOf backOf
+unfolding isDigit worthOf byteOf laid hasTestID shaped sumTrue sumOff sumPasses stationPasses replyOf findIn kindOf holds runOf put encode encodes entryFits frontOf whole entryAt entriesIn kept added areaOf lastOf othersOf lastEntry others puts axesFrom axesOf positionsOf pointOf lengthOf fillsOf positionBytes slotOf slotsOf positionsIn pointIn effectiveIn positionDigits pointDigits messageNumbered messageOf patternFits patternsFit askedRows judged askedOf listed recordsDigits bitsOf eights pointsFit variablesFit journalFits recordsFit axesFit areaRows frameRows silentRows silentOf refusalOf backRows backRefusalOf answerOf backOf
 a-call = tt

@@ -14,11 +14,11 @@ Inv-loop s b i₀ i = (i ≤ length s) × (i + placeOf b (drop i s) ≡ placeOf 
 abbrev μ-loop : tie.MeasureT-loop
 μ-loop s b i₀ i = length s - i
 
-skip-requires : tie.Need-skip-requires Inv-loop μ-loop
-skip-requires c κs = search needs
+pass-blocks-requires : tie.Need-pass-blocks-requires Inv-loop μ-loop
+pass-blocks-requires c κs = search needs
 
 loop-holds : tie.Need-loop-holds Inv-loop μ-loop
-loop-holds c = c .skip .ensures
+loop-holds c = c .pass-blocks .ensures
 
 shared-slice-read-if1 : tie.Need-shared-slice-read-if1 Inv-loop μ-loop
 shared-slice-read-if1 c = omega arith
@@ -50,7 +50,7 @@ place-spec =
     (tie.spec
     Inv-loop
     μ-loop
-    skip-requires
+    pass-blocks-requires
     loop-holds
     shared-slice-read-if1
     returns

@@ -43,12 +43,12 @@ returns-6 : tie.Need-returns-6
 unfolding shaped
 returns-6 c = search (tests)
 
-is-test-id-requires : tie.Need-is-test-id-requires
-is-test-id-requires c κs = search needs
+has-test-id-requires : tie.Need-has-test-id-requires
+has-test-id-requires c κs = search needs
 
 returns-7 : tie.Need-returns-7
 unfolding shaped
-returns-7 c = rw (c .is-test-id .ensures) (search (tests))
+returns-7 c = rw (c .has-test-id .ensures) (search (tests))
 
 pub is-shaped-spec : {M : Type 1} → statement M
 is-shaped-spec =
@@ -65,5 +65,5 @@ is-shaped-spec =
     shared-slice-read-if5
     returns-5
     returns-6
-    is-test-id-requires
+    has-test-id-requires
     returns-7)

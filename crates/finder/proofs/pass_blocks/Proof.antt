@@ -5,8 +5,8 @@ use lib.ListN.{length, take, drop, getD, set}
 use borrow.Author.Needs.{needs}
 use Rattle.finder.specs.Find.{placeOf}
 use Rattle.finder.proofs.Blocks.{block-passed}
-use Rattle.finder.proofs.skip.Statement.{statement}
-use Rattle.finder.proofs.skip.Tie as tie
+use Rattle.finder.proofs.pass_blocks.Statement.{statement}
+use Rattle.finder.proofs.pass_blocks.Tie as tie
 
 abbrev Inv-loop : tie.InvT-loop
 Inv-loop s b passed₀ passed = (passed ≤ length s) × (passed + placeOf b (drop passed s) ≡ placeOf b s)
@@ -53,8 +53,8 @@ loop-again c =
 returns-2 : tie.Need-returns-2 Inv-loop μ-loop
 returns-2 c = c .before .loop .inv
 
-pub skip-spec : {M : Type 1} → statement M
-skip-spec =
+pub pass-blocks-spec : {M : Type 1} → statement M
+pass-blocks-spec =
     tie.close
     (tie.spec
     Inv-loop

@@ -2,8 +2,8 @@ use mathlib.Core.Path.{_∙_}
 use borrow.Author.Needs.{needs}
 use Rattle.frames.proofs.Bools.{tests}
 use Rattle.frames.proofs.TestID.{by-bytes, cut}
-use Rattle.frames.proofs.checks.is_test_id.Statement.{statement}
-use Rattle.frames.proofs.checks.is_test_id.Tie as tie
+use Rattle.frames.proofs.checks.has_test_id.Statement.{statement}
+use Rattle.frames.proofs.checks.has_test_id.Tie as tie
 
 returns : tie.Need-returns
 returns c = rw (cut _ (c .if1 .taken))
@@ -26,8 +26,8 @@ shared-slice-read-result c = search needs
 returns-4 : tie.Need-returns-4
 returns-4 c = rw (by-bytes _) (search (tests))
 
-pub is-test-id-spec : {M : Type 1} → statement M
-is-test-id-spec =
+pub has-test-id-spec : {M : Type 1} → statement M
+has-test-id-spec =
     tie.close
     (tie.spec
     returns
