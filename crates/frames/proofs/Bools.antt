@@ -20,4 +20,4 @@ and-true true = refl
 and-true false = refl
 
 -- a test that the code made, where a specification asks it
-pub ruleset tests = (lt-ltb, le-ltb, le-leb, lt-leb, eq-eqb, ne-eqb, and-false, and-true, or-true, or-false)
+pub ruleset tests = (lt-ltb, le-ltb, le-leb, lt-leb, eq-eqb, ne-eqb, and-false, and-true)

@@ -41,10 +41,10 @@ pub fn is_shaped(frame: &[u8]) -> bool
     if frame[n - 1] != 0x0a {
         return false;
     }
-    if n == 20 {
-        return true;
+    if has_test_id(frame) {
+        return n == 20;
     }
-    !has_test_id(frame)
+    true
 }
 
 // A field's number is this one.

@@ -39,16 +39,16 @@ returns-5 : tie.Need-returns-5
 unfolding shaped
 returns-5 c = search (tests)
 
-returns-6 : tie.Need-returns-6
-unfolding shaped
-returns-6 c = search (tests)
-
 has-test-id-requires : tie.Need-has-test-id-requires
 has-test-id-requires c κs = search needs
 
+returns-6 : tie.Need-returns-6
+unfolding shaped
+returns-6 c = rw (← c .before .has-test-id .ensures, c .if6 .taken) (search (tests))
+
 returns-7 : tie.Need-returns-7
 unfolding shaped
-returns-7 c = rw (c .has-test-id .ensures) (search (tests))
+returns-7 c = rw (← c .before .has-test-id .ensures, c .if6 .left) (search (tests))
 
 pub is-shaped-spec : {M : Type 1} → statement M
 is-shaped-spec =
@@ -64,6 +64,6 @@ is-shaped-spec =
     sub-if5
     shared-slice-read-if5
     returns-5
-    returns-6
     has-test-id-requires
+    returns-6
     returns-7)
