@@ -1,4 +1,4 @@
--- Test calls worked through by computing (02, c): what meets the premises of demand 2's statement, and a finder and boards that it refutes.
+-- Test calls worked through by computing (02, c): what meets the premises of demand 2's statement, and finders and boards that it refutes.
 use Prim.Native.Nat.{ℕ}
 use mathlib.Core.Path.{_≡_}
 use mathlib.Core.Bool.{Bool, true, false, cond, _&&_}
