@@ -113,35 +113,34 @@ module _ (a : Areas) (h : Sent) (frame : List ℕ) where
       ap₂ (λ (n : Named) (s : List ℕ). judged (heldIn (lengthsOf a)) (h .settings .fitted) n s) (message-of frame (take 3 asks) (d .message) ∙ e) (d .content)
       ∙ ordered (heldIn (lengthsOf a)) (h .settings .fitted) q (drop 3 asks) r
 
--- asked so by a host that is heard, with a true SC or '@@', the board hears it and takes it as this order
-module _ (a : Areas) (asks : List ℕ) (q : Message) (p : Open a) (least : 3 ≤ length asks) (most : length asks ≤ 1016) (fits : testFits asks ≡ true)
-    (e : messageNamed (take 3 asks) ≡ Known q) (r : (fitted : ℕ) → Right (heldIn (lengthsOf a)) fitted q (drop 3 asks)) (h : Sent) (o : Host h) (b : Bool) where
-  abbrev frame : List ℕ
-  frame = commandOf b (h .settings .station) asks
-
-  pub is-heard : Heard (h .settings .station) asks frame
-  is-heard = heard b (h .settings .station) asks (o .station-byte) least most fits
-
+-- asked so by a host that is heard, with a true SC or '@@', the board hears it, takes it as this order and accepts it
+pub record TakenAs (q : Message) (a : Areas) (h : Sent) (b : Bool) (asks : List ℕ) : Type 0 where
+  pub is-heard : Heard (h .settings .station) asks (commandOf b (h .settings .station) asks)
   pub again : silentOf (asking a h b asks) ≡ 0
-  again = heard-there a h frame asks o p is-heard
-
   pub order : asked (asking a h b asks) ≡ orderOf q (drop 3 asks)
-  order = asked-there a h frame asks q is-heard e (r (h .settings .fitted))
-
   pub accepts : answerOf (asking a h b asks) .number ≡ 0
-  accepts = ap (λ (x : Outcome). x .number) (heard-answer (asking a h b asks) again) ∙ ap numberGiven order
 
--- so it accepts, and says what the order does
+pub taken-as : (a : Areas) (asks : List ℕ) (q : Message) → Open a → 3 ≤ length asks → length asks ≤ 1016 → testFits asks ≡ true
+    → messageNamed (take 3 asks) ≡ Known q → ((fitted : ℕ) → Right (heldIn (lengthsOf a)) fitted q (drop 3 asks)) → (h : Sent) → Host h → (b : Bool)
+    → TakenAs q a h b asks
+taken-as a asks q p least most fits e r h o b =
+    let frame = commandOf b (h .settings .station) asks in
+    let d = heard b (h .settings .station) asks (o .station-byte) least most fits in
+    let z = heard-there a h frame asks o p d in
+    let w = asked-there a h frame asks q d e (r (h .settings .fitted)) in
+    record { is-heard = d; again = z; order = w; accepts = ap (λ (x : Outcome). x .number) (heard-answer (asking a h b asks) z) ∙ ap numberGiven w }
+
+-- and it says what the order does
 pub says : (a : Areas) (asks said : List ℕ) (q : Message) → Open a → 3 ≤ length asks → length asks ≤ 1016 → testFits asks ≡ true
     → messageNamed (take 3 asks) ≡ Known q → ((fitted : ℕ) → Right (heldIn (lengthsOf a)) fitted q (drop 3 asks))
     → ((h : Sent) (frame : List ℕ) → saidBy (q .does) (heldIn (lengthsOf a)) (sending a h frame .sent) q (startIn q (drop 3 asks)) (countIn q (drop 3 asks)) (areaIn (q .tag) a) ≡ said)
     → Says ours a asks said
 says a asks said q p least most fits e r t =
+    let k = taken-as a asks q p least most fits e r in
     record {
-      number = accepts a asks q p least most fits e r;
+      number = λ h o b. k h o b .accepts;
       text = λ h o b.
-          ap (λ (x : Outcome). x .text) (heard-answer (asking a h b asks) (again a asks q p least most fits e r h o b))
-          ∙ ap (textOf (asking a h b asks)) (order a asks q p least most fits e r h o b)
+          ap (λ (x : Outcome). x .text) (heard-answer (asking a h b asks) (k h o b .again)) ∙ ap (textOf (asking a h b asks)) (k h o b .order)
           ∙ ap (replyOf normal (h .settings .station)) (t h (commandOf b (h .settings .station) asks));
     }
 

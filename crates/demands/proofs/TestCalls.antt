@@ -24,7 +24,7 @@ use Rattle.kinds.specs.Kinds.{heldIn}
 use Rattle.table.specs.declared.Named.{Named}
 use Rattle.messages.specs.Asked.{askedOf, judged, numberGiven}
 use Rattle.messages.proofs.Judged.{Right, ordered}
-use Rattle.calls.specs.Calls.{Areas, Sent, Call, Outcome, callOf, lengthsOf}
+use Rattle.calls.specs.Calls.{Areas, Sent, Call, Outcome, lengthsOf}
 use Rattle.refusals.specs.Refusals.{axesFit, silentOf}
 use Rattle.refusals.proofs.Rows.{area-rows, areas-pass, past-areas, frameNumber, silent-is, call-passed}
 use Rattle.refusals.proofs.Tested.{shape}
@@ -33,11 +33,11 @@ use Rattle.link.proofs.Answering.{silent-answer}
 use Rattle.demands.specs.Refused.{asksWrite}
 use Rattle.demands.specs.History.{ours}
 use Rattle.demands.specs.Reading.{before as beforeSC, asking, Host}
-use Rattle.demands.specs.TestCalls.{testCall, toFound, SaidBack, EveryTestCall, OtherLength, NoErrorReply, TestCalls}
+use Rattle.demands.specs.TestCalls.{testCall, handed, toFound, Unrefused, SaidBack, EveryTestCall, OtherLength, NoErrorReply, TestCalls}
 use Rattle.demands.proofs.Refused.{answer-either, silent-low, query-changes-nothing}
-use Rattle.demands.proofs.Commands.{testFits, framed, framed-long, ends, before-long, Heard, testing, message-of, named}
+use Rattle.demands.proofs.Commands.{testFits, framed, framed-long, ends, before-long, testing, message-of, named}
 use Rattle.demands.proofs.Replied.{test-call-back}
-use Rattle.demands.proofs.Asking.{Open, orderOf, is-heard, order, accepts}
+use Rattle.demands.proofs.Asking.{Open, TakenAs, taken-as}
 
 -- ten bytes pass every test of a 200H
 right-ten : (h : Held) (fitted : ℕ) (content : List ℕ) → length content ≡ 10 → Right h fitted testing content
@@ -95,18 +95,14 @@ module _ (a : Areas) (o : Open a) (h : Sent) (host : Host h) (checked : Bool) (t
   fits : testFits asks ≡ true
   fits = eq-eqb (length asks) 13 (omega arith)
 
-  takes : asked call ≡ orderOf testing ten
-  takes = order a asks testing o (omega arith) (omega arith) fits (named .5) (λ fitted. right-ten (heldIn (lengthsOf a)) fitted ten l) h host checked
-
-  accepted : answerOf call .number ≡ 0
-  accepted = accepts a asks testing o (omega arith) (omega arith) fits (named .5) (λ fitted. right-ten (heldIn (lengthsOf a)) fitted ten l) h host checked
-
-  heard-so : Heard (h .settings .station) asks (call .sent .frame)
-  heard-so = is-heard a asks testing o (omega arith) (omega arith) fits (named .5) (λ fitted. right-ten (heldIn (lengthsOf a)) fitted ten l) h host checked
+  takes : TakenAs testing a h checked asks
+  takes = taken-as a asks testing o (omega arith) (omega arith) fits (named .5) (λ fitted. right-ten (heldIn (lengthsOf a)) fitted ten l) h host checked
 
   -- the ten bytes come back
   ten-back : answerOf call .text ≡ replyOf normal (h .settings .station) asks
-  ten-back = test-call-back call (heard-so .message) accepted ∙ ap₂ (λ (x y : List ℕ). replyOf normal (h .settings .station) (x ++ y)) (heard-so .message) (heard-so .content)
+  ten-back =
+      let d = takes .is-heard in
+      test-call-back call (d .message) (takes .accepts) ∙ ap₂ (λ (x y : List ℕ). replyOf normal (h .settings .station) (x ++ y)) (d .message) (d .content)
 
   module _ (before behind : List ℕ) (q : Quiet before) where
     abbrev bytes : List ℕ
@@ -135,21 +131,24 @@ module _ (a : Areas) (o : Open a) (h : Sent) (host : Host h) (checked : Bool) (t
 
     -- so what is found is answered as the test call itself
     same : toFound findIn ours a h line ≡ answerOf call
-    same = ap (λ (f : List ℕ). answerOf (callOf f (h .axes) (h .settings) (h .reply) a)) is-whole
+    same = ap (λ (f : List ℕ). answerOf (handed a h f)) is-whole
 
     said-back : SaidBack findIn ours a h bytes ten (length before) line
     said-back =
         record {
           found = is-found;
           whole = is-whole;
-          number = ap (λ (x : Outcome). x .number) same ∙ accepted;
+          number = ap (λ (x : Outcome). x .number) same ∙ takes .accepts;
           says = ap (λ (x : Outcome). x .text) same ∙ ten-back;
-          areas = ap (λ (x : Outcome). x .areas) same ∙ query-changes-nothing call (ap asksWrite takes);
+          areas = ap (λ (x : Outcome). x .areas) same ∙ query-changes-nothing call (ap asksWrite (takes .order));
         }
 
+-- areas that no test refuses pass each
+opened : (a : Areas) → Unrefused a → Open a
+opened a e = areas-pass (lengthsOf a) (a .journal) (a .kept) (sym (area-rows (lengthsOf a) (a .journal) (a .kept)) ∙ e) .0
+
 every-test-call : EveryTestCall findIn ours
-every-test-call a e h host checked ten before behind l q =
-    said-back a (areas-pass (lengthsOf a) (a .journal) (a .kept) (sym (area-rows (lengthsOf a) (a .journal) (a .kept)) ∙ e) .0) h host checked ten l before behind q
+every-test-call a e h host checked ten before behind l q = said-back a (opened a e) h host checked ten l before behind q
 
 -- a shaped frame whose ID is '200' has 20 bytes
 twenty : (f : List ℕ) → messageIn f ≡ text "200" → shaped f ≡ true → length f ≡ 20
@@ -157,13 +156,12 @@ twenty f e s = eqb-true _ _ (rw (test-id f .1 e) at (shape f s .test-call))
 
 other-length : OtherLength ours
 other-length a e h host f m n =
-    let o = areas-pass (lengthsOf a) (a .journal) (a .kept) (sym (area-rows (lengthsOf a) (a .journal) (a .kept)) ∙ e) .0 in
-    let c = callOf f (h .axes) (h .settings) (h .reply) a in
+    let c = handed a h f in
     let six : silentOf c ≡ 6 =
     silent-is c
     ∙ rw (
       le-ltb (length (h .reply)) 1024 (host .reply-long),
-      past-areas (lengthsOf a) (a .journal) (a .kept) o (cond (not (axesFit (h .axes) (h .settings .fitted))) 5 (frameNumber (h .settings .station) f 0)),
+      past-areas (lengthsOf a) (a .journal) (a .kept) (opened a e) (cond (not (axesFit (h .axes) (h .settings .fitted))) 5 (frameNumber (h .settings .station) f 0)),
       host .axes-fit,
       no-shape,
     ) in

@@ -21,9 +21,17 @@ use Rattle.demands.specs.Reading.{commandOf, Host}
 abbrev pub testCall : Sent → Bool → List ℕ → List ℕ
 testCall h checked ten = commandOf checked (h .settings .station) (text "200" ++ ten)
 
+-- a frame from a host, over areas
+abbrev pub handed : Areas → Sent → List ℕ → Call
+handed a h frame = callOf frame (h .axes) (h .settings) (h .reply) a
+
 -- what a board answers a host to what a finder finds in the received bytes
 abbrev pub toFound : (List ℕ → Found) → Conduct → Areas → Sent → List ℕ → Outcome
-toFound find board a h received = board .answer (callOf (partOf (find received) received) (h .axes) (h .settings) (h .reply) a)
+toFound find board a h received = board .answer (handed a h (partOf (find received) received))
+
+-- areas that no test refuses
+abbrev pub Unrefused : Areas → Type 0
+Unrefused a = firstOf (areaRows (lengthsOf a) (a .journal) (a .kept)) ≡ 0
 
 -- a frame of 20 bytes behind so many others is found whole and used up to its end, accepted, and answered with the ten bytes unchanged; no area changes
 pub record SaidBack (find : List ℕ → Found) (board : Conduct) (a : Areas) (h : Sent) (frame ten : List ℕ) (start : ℕ) (received : List ℕ) : Type 0 where
@@ -34,19 +42,18 @@ pub record SaidBack (find : List ℕ → Found) (board : Conduct) (a : Areas) (h
   pub areas : toFound find board a h received .areas ≡ a
 
 -- so over areas that no test refuses, from any host that is heard: any ten bytes, CR LF, '!' and '!xx200' among them, behind bytes without '!', whatever
--- follows
+-- follows (02, c)
 abbrev pub EveryTestCall : (List ℕ → Found) → Conduct → Type 0
 EveryTestCall find board =
-    (a : Areas) → firstOf (areaRows (lengthsOf a) (a .journal) (a .kept)) ≡ 0 → (h : Sent) → Host h → (checked : Bool) (ten before behind : List ℕ)
-    → length ten ≡ 10 → Quiet before
+    (a : Areas) → Unrefused a → (h : Sent) → Host h → (checked : Bool) (ten before behind : List ℕ) → length ten ≡ 10 → Quiet before
     → SaidBack find board a h (testCall h checked ten) ten (length before) (before ++ (testCall h checked ten ++ behind))
 
 -- "6 also covers a 200H frame of another length" (02, c): over areas that no test refuses, from any host that is heard, whatever its station bytes and
 -- its SC are
 abbrev pub OtherLength : Conduct → Type 0
 OtherLength board =
-    (a : Areas) → firstOf (areaRows (lengthsOf a) (a .journal) (a .kept)) ≡ 0 → (h : Sent) → Host h → (frame : List ℕ)
-    → messageIn frame ≡ text "200" → (length frame ≡ 20 → ⊥) → board .answer (callOf frame (h .axes) (h .settings) (h .reply) a) ≡ unanswered 6 a
+    (a : Areas) → Unrefused a → (h : Sent) → Host h → (frame : List ℕ) → messageIn frame ≡ text "200" → (length frame ≡ 20 → ⊥)
+    → board .answer (handed a h frame) ≡ unanswered 6 a
 
 -- so no call with a 200H has an error reply, and none is refused 103: it is accepted, or refused without a reply
 abbrev pub NoErrorReply : Conduct → Type 0

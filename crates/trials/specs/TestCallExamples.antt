@@ -11,13 +11,11 @@ use Rattle.finder.specs.declared.Found.{Found}
 use Rattle.finder.specs.declared.Found.the-variants.{Frame}
 use Rattle.finder.specs.Find.{placeOf, beginsTestCall, byLength, findIn}
 use Rattle.finder.specs.Laws.{Head, Quiet, findBefore, TestCallRule, FoundAsBefore}
-use Rattle.messages.specs.Rows.{firstOf}
-use Rattle.calls.specs.Calls.{Sent, lengthsOf}
-use Rattle.refusals.specs.Refusals.{areaRows}
+use Rattle.calls.specs.Calls.{Sent}
 use Rattle.link.specs.Answer.{answerOf}
 use Rattle.demands.specs.History.{Conduct, ours}
 use Rattle.demands.specs.Reading.{Host}
-use Rattle.demands.specs.TestCalls.{testCall, toFound, EveryTestCall, OtherLength, NoErrorReply}
+use Rattle.demands.specs.TestCalls.{testCall, toFound, Unrefused, EveryTestCall, OtherLength, NoErrorReply}
 use Rattle.trials.specs.Cases.{blank, sending, bench}
 use Rattle.trials.specs.Useless.{honestBut, refuser, parrot}
 
@@ -42,7 +40,7 @@ pub record TestCallExamples : Type 0 where
   pub nested : findIn (text "!99200!\r\n!99200\r@@\r\n") ≡ Frame 0 20
   pub nested-said : toFound findIn ours blank host (testCall host true marks) .text ≡ text "#99200!\r\n!99200\r91\r\n"
   -- the premises: areas that no test refuses, a host that is heard, bytes without '!', a head
-  pub areas-pass : firstOf (areaRows (lengthsOf blank) (blank .journal) (blank .kept)) ≡ 0
+  pub areas-pass : Unrefused blank
   pub heard : Host host
   pub quiet : Quiet (text "ab")
   pub head : Head (text "!99200")
