@@ -1,5 +1,5 @@
 /*
- * plain.c: the board's three calls, written plainly by hand from documents 01, 02 (requests a and c) and 000.
+ * plain.c: the board's three calls, written plainly by hand from documents 01, 02 (requests a, c, l) and 000.
  *
  * No heap and no second buffers: replies are written where they are lent, old bytes go straight into
  * the journal. A frame is read once for its sum and once for its fields. Any bytes and any lengths
@@ -42,11 +42,15 @@ enum {
 
 /* ---- digits ---- */
 
-/* A digit's value with bit 7 set; 0 for any other byte, so lower case is no digit. */
+/* The rules that releases 1 and 2 name, as the bit that a digit has in the table below. */
+enum { CAPITALS_ONLY = 0x40, SMALL_TOO = 0x80 };
+
+/* A digit's value with the bits of the rules under which it is one; 0 for any other byte. */
 static const uint8_t digit[256] = {
-    ['0'] = 0x80, ['1'] = 0x81, ['2'] = 0x82, ['3'] = 0x83, ['4'] = 0x84, ['5'] = 0x85,
-    ['6'] = 0x86, ['7'] = 0x87, ['8'] = 0x88, ['9'] = 0x89, ['A'] = 0x8A, ['B'] = 0x8B,
-    ['C'] = 0x8C, ['D'] = 0x8D, ['E'] = 0x8E, ['F'] = 0x8F
+    ['0'] = 0xC0, ['1'] = 0xC1, ['2'] = 0xC2, ['3'] = 0xC3, ['4'] = 0xC4, ['5'] = 0xC5,
+    ['6'] = 0xC6, ['7'] = 0xC7, ['8'] = 0xC8, ['9'] = 0xC9, ['A'] = 0xCA, ['B'] = 0xCB,
+    ['C'] = 0xCC, ['D'] = 0xCD, ['E'] = 0xCE, ['F'] = 0xCF,
+    ['a'] = 0x8A, ['b'] = 0x8B, ['c'] = 0x8C, ['d'] = 0x8D, ['e'] = 0x8E, ['f'] = 0x8F
 };
 
 static const uint8_t digit_of[16] = {'0', '1', '2', '3', '4', '5', '6', '7',
@@ -58,6 +62,12 @@ static const uint8_t ones_of[16] = {0, 1, 1, 2, 1, 2, 2, 3, 1, 2, 2, 3, 2, 3, 3,
 static unsigned ones(unsigned pattern)
 {
     return (unsigned)ones_of[pattern >> 4] + ones_of[pattern & 15];
+}
+
+/* Whether two bytes are digits under this rule. */
+static int are_digits(const uint8_t *field, unsigned rule)
+{
+    return (digit[field[0]] & digit[field[1]] & rule) != 0;
 }
 
 /* The byte two digits stand for; they are known to be digits. */
@@ -144,6 +154,20 @@ static void put_same(struct text *text, const uint8_t *bytes, size_t count)
     for (i = 0; i < count; i++) {
         at[i] = bytes[i];
         sum += bytes[i];
+    }
+    text->at = at + count;
+    text->sum = sum;
+}
+
+/* Digits of the command, in capitals: bit 6 is a letter's, and bit 5 then makes it small. */
+static void put_digits(struct text *text, const uint8_t *digits, size_t count)
+{
+    uint8_t *at = text->at;
+    unsigned sum = text->sum;
+    size_t i;
+    for (i = 0; i < count; i++) {
+        at[i] = (uint8_t)(digits[i] & ~((digits[i] & 0x40) >> 1));
+        sum += at[i];
     }
     text->at = at + count;
     text->sum = sum;
@@ -331,11 +355,11 @@ static int has_shape(const uint8_t *frame, size_t length)
            is_pair(frame + length - 2) && (length == TEST_CALL_FRAME || !is_test_call(frame + ID_AT));
 }
 
-/* Test 7; on the way, bit 7 of *digits says whether all content bytes are digits. */
-static int has_good_sc(const uint8_t *frame, size_t length, unsigned *digits)
+/* Test 7; on the way, *digits becomes 0 where a content byte isn't a digit under this rule. */
+static int has_good_sc(const uint8_t *frame, size_t length, unsigned rule, unsigned *digits)
 {
     const uint8_t *sc = frame + length - END;
-    unsigned sum = 0, all = 0x80;
+    unsigned sum = 0, all = rule;
     size_t i;
     for (i = 0; i < CONTENT_AT; i++)
         sum += frame[i];
@@ -345,13 +369,13 @@ static int has_good_sc(const uint8_t *frame, size_t length, unsigned *digits)
     }
     *digits = all;
     return (sc[0] == '@' && sc[1] == '@') ||
-           (sc[0] == digit_of[sum >> 4 & 15] && sc[1] == digit_of[sum & 15]);
+           (two(sc) == (sum & 255) && are_digits(sc, rule));
 }
 
 /* Test 8. */
-static int has_station(const uint8_t *frame, uint8_t station)
+static int has_station(const uint8_t *frame, uint8_t station, unsigned rule)
 {
-    return frame[1] == digit_of[station >> 4] && frame[2] == digit_of[station & 15];
+    return two(frame + 1) == station && are_digits(frame + 1, rule);
 }
 
 /* ---- messages ---- */
@@ -380,10 +404,10 @@ struct asked {
     size_t start, count;
 };
 
-static unsigned message_of(const uint8_t *id)
+static unsigned message_of(const uint8_t *id, unsigned rule)
 {
-    /* In three capital digits or not at all. */
-    unsigned all = digit[id[0]] & digit[id[1]] & digit[id[2]] & 0x80u;
+    /* In three digits or not at all. */
+    unsigned all = digit[id[0]] & digit[id[1]] & digit[id[2]] & rule;
     unsigned message = three(id);
     if (all == 0)
         return UNKNOWN;
@@ -673,29 +697,29 @@ static void carry_out(struct text *text, struct areas *areas, const struct asked
         put_point_list(text, areas, asked);
         break;
     case COLUMN_QUERY:
-        put_same(text, asked->content, 7);
+        put_digits(text, asked->content, 7);
         put_bytes(text, place_of(areas, COLUMNS_TAG, asked->start), asked->count);
         break;
     case INTEGER_QUERY:
-        put_same(text, asked->content, 7);
+        put_digits(text, asked->content, 7);
         put_bytes(text, place_of(areas, INTEGERS_TAG, asked->start), INTEGER * asked->count);
         break;
     case FLAG_QUERY:
-        put_same(text, asked->content, 10);
+        put_digits(text, asked->content, 10);
         put_flags(text, place_of(areas, FLAGS_TAG, asked->start), asked->count);
         break;
     case AXIS_STATUS:
         put_axes(text, axes, two(asked->content) & (unsigned)fitted);
         break;
     case POINT_WRITE:
-        put_same(text, asked->content, 6);
+        put_digits(text, asked->content, 6);
         write_points(areas, asked);
         break;
     case POINT_CLEAR:
         clear_points(areas, asked);
         break;
     case INTEGER_WRITE:
-        put_same(text, asked->content, 7);
+        put_digits(text, asked->content, 7);
         write_integers(areas, asked);
         break;
     case FLAG_WRITE:
@@ -788,24 +812,32 @@ uint8_t plain_receive(const uint8_t *received, size_t received_length,
     return there < LONGEST_FRAME ? 2 : 3;
 }
 
-/* Tests 5 to 8; 0 where none holds. *digits is what test 7 finds of the content. */
+/* The rule that a release names, 0 where it names none. */
+static unsigned rule_of(uint8_t release)
+{
+    return release == 1 ? CAPITALS_ONLY : release == 2 ? SMALL_TOO : 0;
+}
+
+/* Tests 5 to 8, with 13 after 5; 0 where none holds. *digits is what test 7 finds of the content. */
 static uint16_t test_frame(const uint8_t *frame, size_t frame_length,
                            const uint8_t *axes, size_t axes_length,
-                           uint8_t fitted, uint8_t station, unsigned *digits)
+                           uint8_t fitted, uint8_t station, unsigned rule, unsigned *digits)
 {
     if (!axes_are_good(axes, axes_length, fitted))
         return 5;
+    if (rule == 0)
+        return 13;
     if (!has_shape(frame, frame_length))
         return 6;
-    if (!has_good_sc(frame, frame_length, digits))
+    if (!has_good_sc(frame, frame_length, rule, digits))
         return 7;
-    return has_station(frame, station) ? 0 : 8;
+    return has_station(frame, station, rule) ? 0 : 8;
 }
 
 /* What a frame that passed all tests without a reply asks; its fields are read when it is judged. */
-static struct asked read_frame(const uint8_t *frame, size_t frame_length)
+static struct asked read_frame(const uint8_t *frame, size_t frame_length, unsigned rule)
 {
-    struct asked asked = {message_of(frame + ID_AT), frame + CONTENT_AT,
+    struct asked asked = {message_of(frame + ID_AT, rule), frame + CONTENT_AT,
                           frame_length - CONTENT_AT - END, 0, 0};
     return asked;
 }
@@ -817,7 +849,7 @@ uint16_t plain_answer(const uint8_t *frame, size_t frame_length,
                       uint8_t *flags, size_t flags_length,
                       uint8_t *journal, size_t journal_length, size_t *used,
                       const uint8_t *axes, size_t axes_length,
-                      uint8_t fitted, uint8_t station,
+                      uint8_t fitted, uint8_t station, uint8_t release,
                       uint16_t first_integer, uint16_t first_flag,
                       uint8_t *reply, size_t reply_area_length, size_t *reply_length)
 {
@@ -825,24 +857,24 @@ uint16_t plain_answer(const uint8_t *frame, size_t frame_length,
                           journal, journal_length, *used, 0};
     struct text text = {reply, 0};
     struct asked asked;
-    unsigned digits = 0;
+    unsigned rule = rule_of(release), digits = 0;
     uint16_t number;
     *reply_length = 0;
     if (reply_area_length < LONGEST_REPLY)
         return 1;
     number = test_areas(&areas, points_length, columns_length, integers_length, flags_length);
     if (number == 0)
-        number = test_frame(frame, frame_length, axes, axes_length, fitted, station, &digits);
+        number = test_frame(frame, frame_length, axes, axes_length, fitted, station, rule, &digits);
     if (number != 0)
         return number;
-    asked = read_frame(frame, frame_length);
+    asked = read_frame(frame, frame_length, rule);
     number = judge(&asked, digits, &areas, fitted);
     if (number != 0) {
         *reply_length = error_reply(reply, station, number);
         return number;
     }
     put(&text, '#');
-    put_same(&text, frame + 1, CONTENT_AT - 1); /* station and message ID are the command's */
+    put_digits(&text, frame + 1, CONTENT_AT - 1); /* station and message ID are the command's */
     carry_out(&text, &areas, &asked, axes, fitted);
     *reply_length = close_reply(&text, reply);
     *used = areas.used;

@@ -187,7 +187,7 @@ static void give_area(struct area *a)
 static void call(int kind)
 {
     size_t used = (size_t)number(8), out[3] = {UNSET, UNSET, UNSET}, i;
-    uint8_t fitted = (uint8_t)number(1), station = (uint8_t)number(1);
+    uint8_t fitted = (uint8_t)number(1), station = (uint8_t)number(1), release = (uint8_t)number(1);
     uint16_t first_integer = (uint16_t)number(2), first_flag = (uint16_t)number(2);
     struct area *p = &area[POINTS], *c = &area[COLUMNS], *n = &area[INTEGERS], *f = &area[FLAGS];
     struct area *j = &area[JOURNAL], *x = &area[AXES], *r = &area[REPLY], *h = &area[HANDED];
@@ -198,8 +198,8 @@ static void call(int kind)
     if (kind == 'F')
         returned = cabinet_answer(lent(h), h->length, lent(p), p->length, lent(c), c->length,
                                   lent(n), n->length, lent(f), f->length, lent(j), j->length, &used,
-                                  lent(x), x->length, fitted, station, first_integer, first_flag,
-                                  lent(r), r->length, &out[0]);
+                                  lent(x), x->length, fitted, station, release,
+                                  first_integer, first_flag, lent(r), r->length, &out[0]);
     else if (kind == 'S')
         returned = cabinet_step_back(lent(p), p->length, lent(c), c->length, lent(n), n->length,
                                      lent(f), f->length, lent(j), j->length, &used,

@@ -155,7 +155,7 @@ extern "C" {
  * Version 3: cabinet_receive takes 20 bytes as a test call, so line ends may be among its ten bytes; before,
  * it cut the frame at the first. A 200H frame of another length is refused 6, without a reply; before, 103.
  */
-#define CABINET_VERSION 3
+#define CABINET_VERSION 4
 
 /* Lengths in bytes ("The areas", "Frame"), and how many there are: points at most, integers, flags. */
 #define CABINET_SLOT_BYTES 40
@@ -184,6 +184,12 @@ enum cabinet_found {
     CABINET_TOO_LONG = 3 /* no CR LF in the 1,023 bytes from the '!' on */
 };
 
+/* The cabinet release: which letters the store's computer may send as digits 10 to 15. */
+enum cabinet_release {
+    CABINET_CAPITALS_ONLY = 1,    /* 'A' to 'F' */
+    CABINET_SMALL_LETTERS_TOO = 2 /* 'A' to 'F' and 'a' to 'f' */
+};
+
 /* What the other calls answer, in the order tested: the table "Refusal numbers" above. */
 enum cabinet_refusal {
     CABINET_ACCEPTED = 0,
@@ -193,6 +199,7 @@ enum cabinet_refusal {
     CABINET_REFUSED_VARIABLES = 10,
     CABINET_REFUSED_JOURNAL = 4,
     CABINET_REFUSED_AXES = 5,
+    CABINET_REFUSED_RELEASE = 13,
     CABINET_REFUSED_FRAME = 6,
     CABINET_REFUSED_SC = 7,
     CABINET_REFUSED_STATION = 8,
@@ -250,6 +257,7 @@ uint8_t cabinet_receive(const uint8_t *received, size_t received_length,
  *   axes, axes_length             the eight axis records; not written
  *   fitted          the fitted axes, bit 0 for axis 1; not 0
  *   station         the board's station, two digits in a frame (99H for "99")
+ *   release         the cabinet release: CABINET_CAPITALS_ONLY (1) or CABINET_SMALL_LETTERS_TOO (2)
  *   first_integer   the number of the first integer variable
  *   first_flag      the number of the first flag
  *   reply, reply_area_length      the reply area; bytes beyond the reply stay
@@ -284,7 +292,7 @@ uint16_t cabinet_answer(const uint8_t *frame, size_t frame_length,
                         uint8_t *flags, size_t flags_length,
                         uint8_t *journal, size_t journal_length, size_t *used,
                         const uint8_t *axes, size_t axes_length,
-                        uint8_t fitted, uint8_t station,
+                        uint8_t fitted, uint8_t station, uint8_t release,
                         uint16_t first_integer, uint16_t first_flag,
                         uint8_t *reply, size_t reply_area_length, size_t *reply_length);
 
@@ -335,6 +343,7 @@ struct cabinet {
     /* settings */
     uint8_t fitted;         /* the fitted axes, bit 0 for axis 1; not 0 */
     uint8_t station;        /* two digits in a frame (0x99 for "99") */
+    uint8_t release;        /* enum cabinet_release; 0, not set, is CABINET_CAPITALS_ONLY */
     uint16_t first_integer; /* number of the first integer variable, 0 to 3,996 */
     uint16_t first_flag;    /* number of the first flag, 0 to 65,236 */
 
@@ -364,6 +373,7 @@ static inline uint16_t cabinet_answer_frame(struct cabinet *board,
                           board->integers, sizeof board->integers, board->flags, sizeof board->flags,
                           board->journal, board->journal_length, &board->used,
                           board->axes, sizeof board->axes, board->fitted, board->station,
+                          board->release == 0 ? CABINET_CAPITALS_ONLY : board->release,
                           board->first_integer, board->first_flag,
                           board->reply, sizeof board->reply, &board->reply_length);
 }

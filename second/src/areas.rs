@@ -1,5 +1,5 @@
 //! The lent areas (document 01, "The areas"; document 02, a): slots, columns, integers, flags and
-//! axis records.
+//! axis records; and the settings beside them.
 
 use std::ops::Range;
 
@@ -79,6 +79,8 @@ pub struct Firsts {
 pub struct Settings {
     pub fitted: u8,
     pub station: u8,
+    /// The cabinet release, which names the rule of digits (document 02, l).
+    pub release: u8,
     pub firsts: Firsts,
 }
 

@@ -7,8 +7,12 @@ use crate::frames::{self, Found, LONGEST_REPLY};
 use crate::link;
 
 /// The bench's own settings.
-pub const SETTINGS: Settings =
-    Settings { fitted: 0xFF, station: 0x99, firsts: Firsts { integer: 200, flag: 600 } };
+pub const SETTINGS: Settings = Settings {
+    fitted: 0xFF,
+    station: 0x99,
+    release: 1,
+    firsts: Firsts { integer: 200, flag: 600 },
+};
 
 #[derive(Clone, Debug)]
 pub struct Bench {
@@ -20,8 +24,8 @@ pub struct Bench {
 }
 
 impl Bench {
-    /// A fresh board: station 99H, all eight axes fitted, zero records, integers from 200 on and
-    /// flags from 600 on.
+    /// A fresh board: station 99H, release 1, all eight axes fitted, zero records, integers from 200
+    /// on and flags from 600 on.
     pub fn fresh(points: usize, journal_length: usize) -> Bench {
         Bench {
             board: Board::fresh(points, journal_length),

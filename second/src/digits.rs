@@ -1,20 +1,42 @@
-//! Hexadecimal digits as they stand in a frame (document 01, "Frame": capitals only).
+//! Hexadecimal digits as they stand in a frame (document 01, "Frame"; document 02, l). What is sent is
+//! turned into capitals by `capitals`; all that reads or writes fields knows capitals alone.
 
 /// Most digits a field of document 000 has: a position's eight.
 const WIDEST: usize = 8;
 
-/// Value of one digit byte; lower case is no digit.
-pub fn value(byte: u8) -> Option<u32> {
+const CAPITALS: &[u8; 16] = b"0123456789ABCDEF";
+
+/// Which letters are digits; the cabinet release names it (document 02, l).
+#[derive(Clone, Copy, Debug, PartialEq, Eq)]
+pub enum Rule {
+    CapitalsOnly,
+    SmallToo,
+}
+
+impl Rule {
+    /// None is refusal 13.
+    pub fn of_release(release: u8) -> Option<Rule> {
+        match release {
+            1 => Some(Rule::CapitalsOnly),
+            2 => Some(Rule::SmallToo),
+            _ => None,
+        }
+    }
+}
+
+/// Value of one digit byte; lower case is a digit under one rule alone.
+pub fn value(byte: u8, rule: Rule) -> Option<u32> {
     match byte {
         b'0'..=b'9' => Some(u32::from(byte - b'0')),
         b'A'..=b'F' => Some(u32::from(byte - b'A') + 10),
+        b'a'..=b'f' if rule == Rule::SmallToo => Some(u32::from(byte - b'a') + 10),
         _ => None,
     }
 }
 
-/// Whether every byte is a digit (also true of no bytes).
-pub fn all_digits(bytes: &[u8]) -> bool {
-    bytes.iter().all(|&byte| value(byte).is_some())
+/// The same digits in capitals; None where a byte isn't one.
+pub fn capitals(sent: &[u8], rule: Rule) -> Option<Vec<u8>> {
+    sent.iter().map(|&byte| Some(CAPITALS[value(byte, rule)? as usize])).collect()
 }
 
 /// Number that a field of up to eight digits stands for, high digit first (000, 4-3: "Big").
@@ -22,14 +44,14 @@ pub fn number(field: &[u8]) -> Option<u32> {
     if field.len() > WIDEST {
         return None;
     }
-    field.iter().try_fold(0, |sum, &byte| Some(sum * 16 + value(byte)?))
+    field.iter().try_fold(0, |sum, &byte| Some(sum * 16 + value(byte, Rule::CapitalsOnly)?))
 }
 
 /// Appends `number` as exactly `width` digits: leading zeros stay (000, 1.2 (1)).
 pub fn push(text: &mut Vec<u8>, number: u32, width: usize) {
     for place in (0..width as u32).rev() {
         let digit = number.checked_shr(4 * place).unwrap_or(0) & 0xF;
-        text.push(b"0123456789ABCDEF"[digit as usize]);
+        text.push(CAPITALS[digit as usize]);
     }
 }
 
@@ -66,12 +88,44 @@ mod tests {
         text
     }
 
+    /// All bytes that are digits under a rule, and their values.
+    fn digits(rule: Rule) -> (Vec<u8>, Vec<u32>) {
+        (0..=255).filter_map(|byte| Some((byte, value(byte, rule)?))).unzip()
+    }
+
     #[test]
-    fn exactly_sixteen_bytes_are_digits() {
-        let digits: Vec<u8> = (0..=255).filter(|&byte| value(byte).is_some()).collect();
-        assert_eq!(digits, b"0123456789ABCDEF");
-        let values: Vec<u32> = digits.iter().filter_map(|&byte| value(byte)).collect();
+    fn exactly_sixteen_bytes_are_digits_under_release_1() {
+        let (bytes, values) = digits(Rule::CapitalsOnly);
+        assert_eq!(bytes, b"0123456789ABCDEF");
         assert_eq!(values, (0..16).collect::<Vec<u32>>());
+    }
+
+    #[test]
+    fn six_small_letters_more_are_digits_under_release_2() {
+        let (bytes, values) = digits(Rule::SmallToo);
+        assert_eq!(bytes, b"0123456789ABCDEFabcdef");
+        assert_eq!(values, (0..16).chain(10..16).collect::<Vec<u32>>());
+    }
+
+    #[test]
+    fn two_releases_name_a_rule() {
+        let named: Vec<u8> = (0..=255).filter(|&byte| Rule::of_release(byte).is_some()).collect();
+        assert_eq!(named, [1, 2]);
+        assert_eq!(Rule::of_release(1), Some(Rule::CapitalsOnly));
+        assert_eq!(Rule::of_release(2), Some(Rule::SmallToo));
+    }
+
+    #[test]
+    fn what_is_sent_is_turned_into_capitals() {
+        let both =
+            |sent: &[u8]| [Rule::CapitalsOnly, Rule::SmallToo].map(|rule| capitals(sent, rule));
+        assert_eq!(both(b"09AF"), [Some(b"09AF".to_vec()), Some(b"09AF".to_vec())]);
+        assert_eq!(both(b"24e"), [None, Some(b"24E".to_vec())]);
+        assert_eq!(both(b"aBcDeF"), [None, Some(b"ABCDEF".to_vec())]);
+        assert_eq!(both(b""), [Some(Vec::new()), Some(Vec::new())]);
+        for beside in b"g`@G/: \r" {
+            assert_eq!(both(&[b'0', *beside]), [None, None]);
+        }
     }
 
     #[test]

@@ -1,7 +1,7 @@
 //! Frames: finding them, their sum, and the tests 6, 7 and 8 (document 01, "Finding a frame" and
-//! "Frame"; document 02, c; document 000, sections 3 and 4-3-1).
+//! "Frame"; document 02, c and l; document 000, sections 3 and 4-3-1).
 
-use crate::digits;
+use crate::digits::{self, Rule};
 use std::ops::Range;
 
 /// Longest frame the board receives (000, 4-3: "maximum receivable size ... 1023 bytes").
@@ -109,16 +109,17 @@ pub fn has_shape(frame: &[u8]) -> bool {
         && (&frame[ID] != TEST_CALL || frame.len() == TEST_CALL_FRAME)
 }
 
-/// Test 7, of a frame that passed 6: SC is true, or '@@' and then not checked.
-pub(crate) fn has_good_sc(frame: &[u8]) -> bool {
+/// Test 7, of a frame that passed 6: SC is true of the bytes as sent, or '@@' and then not checked.
+pub(crate) fn has_good_sc(frame: &[u8], rule: Rule) -> bool {
     let (before, end) = frame.split_at(frame.len() - 4);
     let given = &end[..2];
-    given == b"@@" || given == sc(before)
+    given == b"@@" || digits::capitals(given, rule) == Some(sc(before))
 }
 
 /// Test 8, of a frame that passed 6: two digits with the value of the station.
-pub(crate) fn has_station(frame: &[u8], station: u8) -> bool {
-    digits::number(&frame[1..3]) == Some(u32::from(station))
+pub(crate) fn has_station(frame: &[u8], station: u8, rule: Rule) -> bool {
+    let given = digits::capitals(&frame[1..3], rule);
+    given.and_then(|given| digits::number(&given)) == Some(u32::from(station))
 }
 
 /// Message ID and content of a frame that passed 6.
@@ -134,7 +135,7 @@ pub fn closed(mut text: Vec<u8>) -> Vec<u8> {
     text
 }
 
-/// Normal reply: '#', station, the command's message ID, content (000, section 3 (2)).
+/// Normal reply: '#', station, the command's message ID in capitals, content (000, section 3 (2)).
 pub fn normal_reply(station: u8, id: &[u8], content: &[u8]) -> Vec<u8> {
     let mut text = vec![b'#'];
     digits::push(&mut text, u32::from(station), 2);
@@ -254,20 +255,42 @@ mod tests {
 
     #[test]
     fn test_seven_wants_the_true_capitals_or_the_two_marks() {
-        assert!(has_good_sc(b"!9920900100554\r\n"));
-        assert!(has_good_sc(b"!99209001005@@\r\n"));
-        assert!(!has_good_sc(b"!9920900100555\r\n"));
-        assert!(!has_good_sc(b"!992090010055@\r\n"));
-        assert!(!has_good_sc(b"!99209001005@4\r\n"));
+        for rule in [Rule::CapitalsOnly, Rule::SmallToo] {
+            assert!(has_good_sc(b"!9920900100554\r\n", rule));
+            assert!(has_good_sc(b"!99209001005@@\r\n", rule));
+            assert!(!has_good_sc(b"!9920900100555\r\n", rule));
+            assert!(!has_good_sc(b"!992090010055@\r\n", rule));
+            assert!(!has_good_sc(b"!99209001005@4\r\n", rule));
+        }
+    }
+
+    #[test]
+    fn test_seven_takes_small_letters_under_release_2_and_sums_what_was_sent() {
+        let of = |frame: &[u8]| {
+            [Rule::CapitalsOnly, Rule::SmallToo].map(|rule| has_good_sc(frame, rule))
+        };
+        // 21+39+39+32+30+38 is 12D; FF in 212FF makes 1B4, and a small letter 20 more.
+        assert_eq!(of(b"!992082D\r\n"), [true, true]);
+        assert_eq!(of(b"!992082d\r\n"), [false, true]);
+        assert_eq!(of(b"!99212FFb4\r\n"), [false, true]);
+        assert_eq!(of(b"!99212fFD4\r\n"), [true, true]);
+        assert_eq!(of(b"!99212ffF4\r\n"), [true, true]);
+        assert_eq!(of(b"!99212fff4\r\n"), [false, true]);
+        assert_eq!(of(b"!99212ffB4\r\n"), [false, false]);
+        assert_eq!(of(b"!99212ff@@\r\n"), [true, true]);
     }
 
     #[test]
     fn test_eight_reads_the_station_as_digits() {
-        assert!(has_station(b"!99208@@\r\n", 0x99));
-        assert!(!has_station(b"!99208@@\r\n", 99));
-        assert!(has_station(b"!0F208@@\r\n", 15));
-        assert!(!has_station(b"!0f208@@\r\n", 15));
-        assert!(!has_station(b"! F208@@\r\n", 15));
+        for rule in [Rule::CapitalsOnly, Rule::SmallToo] {
+            assert!(has_station(b"!99208@@\r\n", 0x99, rule));
+            assert!(!has_station(b"!99208@@\r\n", 99, rule));
+            assert!(has_station(b"!0F208@@\r\n", 15, rule));
+            assert!(!has_station(b"! F208@@\r\n", 15, rule));
+            assert!(!has_station(b"!0g208@@\r\n", 16, rule));
+        }
+        assert!(!has_station(b"!0f208@@\r\n", 15, Rule::CapitalsOnly));
+        assert!(has_station(b"!0f208@@\r\n", 15, Rule::SmallToo));
     }
 
     #[test]

@@ -1,6 +1,7 @@
 //! The two calls: answering a frame and stepping back (document 01, "Refusal numbers").
 
 use crate::areas::{self, Area, Axis, Board, Firsts, Kind, Kinds, Run, Settings};
+use crate::digits::Rule;
 use crate::frames::{self, LONGEST_REPLY};
 use crate::journal::{self, Entry};
 use crate::messages::{self, Asked};
@@ -27,16 +28,15 @@ pub fn answer(
     settings: Settings,
     reply: &mut [u8],
 ) -> Outcome {
-    let (sound, records) = match silent_tests(frame, board, axes, settings, reply.len()) {
+    let (sound, records, rule) = match silent_tests(frame, board, axes, settings, reply.len()) {
         Ok(found) => found,
         Err(number) => return Outcome { number, reply_length: 0 },
     };
     let Settings { fitted, station, .. } = settings;
-    let (number, text) = match messages::ask(frame, &sound.kinds, fitted) {
-        Ok(asked) => {
+    let (number, text) = match messages::ask(frame, &sound.kinds, fitted, rule) {
+        Ok((id, asked)) => {
             let content = carry_out(&asked, board, &sound.entries, &records, fitted);
-            let (id, _) = frames::id_and_content(frame);
-            (0, frames::normal_reply(station, id, &content))
+            (0, frames::normal_reply(station, &id, &content))
         }
         Err(number) => (number, frames::error_reply(station, number)),
     };
@@ -58,14 +58,14 @@ pub fn step_back(board: &mut Board, firsts: Firsts) -> u16 {
     }
 }
 
-/// Tests 1 to 8, whose refusals have no reply, with 10 after 3.
+/// Tests 1 to 8, whose refusals have no reply, with 10 after 3 and 13 after 5.
 fn silent_tests(
     frame: &[u8],
     board: &Board,
     axes: &[u8],
     settings: Settings,
     reply_area: usize,
-) -> Result<(Sound, Vec<Axis>), u16> {
+) -> Result<(Sound, Vec<Axis>, Rule), u16> {
     if reply_area < LONGEST_REPLY {
         return Err(1);
     }
@@ -74,16 +74,17 @@ fn silent_tests(
     if settings.fitted == 0 {
         return Err(5);
     }
+    let rule = Rule::of_release(settings.release).ok_or(13u16)?;
     if !frames::has_shape(frame) {
         return Err(6);
     }
-    if !frames::has_good_sc(frame) {
+    if !frames::has_good_sc(frame, rule) {
         return Err(7);
     }
-    if !frames::has_station(frame, settings.station) {
+    if !frames::has_station(frame, settings.station, rule) {
         return Err(8);
     }
-    Ok((sound, records))
+    Ok((sound, records, rule))
 }
 
 /// Tests 2, 3, 10 and 4, which both calls make.

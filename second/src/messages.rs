@@ -1,8 +1,8 @@
 //! What a frame asks, and the refusals 101 to 108 in their order (document 01, "Each message" and
-//! "Refusal numbers"; document 02, a; layouts of commands from document 000, 4-3-2 to 4-3-30).
+//! "Refusal numbers"; document 02, a and l; layouts of commands from document 000, 4-3-2 to 4-3-30).
 
 use crate::areas::{axes_of, Kind, Kinds, Point, Run, AXES};
-use crate::digits::{all_digits, Fields};
+use crate::digits::{capitals, Fields, Rule};
 use crate::frames;
 
 /// What the content of a command asks, its layout being right. A query and a change are of the bytes
@@ -21,14 +21,23 @@ pub enum Asked {
     Change { program: u32, run: Run, bytes: Vec<u8> },
 }
 
-/// Reads a frame that passed tests 6 to 8; Err is the refusal, the earliest that holds.
-pub(crate) fn ask(frame: &[u8], kinds: &Kinds, fitted: u8) -> Result<Asked, u16> {
+/// Reads a frame that passed tests 6 to 8: its message ID in capitals, and what it asks; Err is the
+/// refusal, the earliest that holds.
+pub(crate) fn ask(
+    frame: &[u8],
+    kinds: &Kinds,
+    fitted: u8,
+    rule: Rule,
+) -> Result<(Vec<u8>, Asked), u16> {
     let (id, content) = frames::id_and_content(frame);
-    let layout = layout_of(id).ok_or(101u16)?;
-    if id != b"200" && !all_digits(content) {
-        return Err(102);
-    }
-    let asked = layout(content, kinds).ok_or(103u16)?;
+    let id = capitals(id, rule).ok_or(101u16)?;
+    let layout = layout_of(&id).ok_or(101u16)?;
+    let content = match id.as_slice() {
+        // Ten bytes of any kind, which stay as sent.
+        b"200" => content.to_vec(),
+        _ => capitals(content, rule).ok_or(102u16)?,
+    };
+    let asked = layout(&content, kinds).ok_or(103u16)?;
     if asked.program().is_some_and(|program| program != 0) {
         return Err(104);
     }
@@ -45,13 +54,13 @@ pub(crate) fn ask(frame: &[u8], kinds: &Kinds, fitted: u8) -> Result<Asked, u16>
     if matches!(asked, Asked::FlagChange { change, .. } if change > 1) {
         return Err(108);
     }
-    Ok(asked)
+    Ok((id, asked))
 }
 
 /// Reads the content of one message; None when its length isn't this message's.
 type Layout = fn(&[u8], &Kinds) -> Option<Asked>;
 
-/// The layout of a known message; any other ID bytes are an unknown message.
+/// The layout of a known message, its ID in capitals; any other ID is an unknown message.
 fn layout_of(id: &[u8]) -> Option<Layout> {
     match id {
         b"200" => Some(|content, _| Some(test_call(content))),
@@ -231,8 +240,12 @@ mod tests {
 
     /// What ID and content ask of such a board with axes 1 to 4 fitted.
     fn asked(id_and_content: &str) -> Result<Asked, u16> {
+        asked_under(Rule::CapitalsOnly, id_and_content).map(|(_, asked)| asked)
+    }
+
+    fn asked_under(rule: Rule, id_and_content: &str) -> Result<(Vec<u8>, Asked), u16> {
         let frame = ["!99", id_and_content, "@@\r\n"].concat();
-        ask(frame.as_bytes(), &kinds(), 0x0F)
+        ask(frame.as_bytes(), &kinds(), 0x0F, rule)
     }
 
     fn refusal(id_and_content: &str) -> Option<u16> {
@@ -295,6 +308,26 @@ mod tests {
             assert_eq!(refusal(id), Some(101));
             assert_eq!(refusal(&[id, "xyz"].concat()), Some(101));
         }
+    }
+
+    #[test]
+    fn small_letters_ask_the_same_under_release_2() {
+        for text in ["20D000259012B", "20E000C864", "2100012C04", "212C3", "24E003E6020A4F"] {
+            let small = text.to_ascii_lowercase();
+            let [of_capitals, of_small] =
+                [text, &small].map(|text| asked_under(Rule::SmallToo, text));
+            assert_eq!(
+                of_capitals.as_ref().map(|(id, _)| id.as_slice()),
+                Ok(&text.as_bytes()[..3])
+            );
+            assert_eq!(of_small, of_capitals, "{text}");
+            assert_eq!(of_capitals.map(|(_, asked)| asked), asked(text));
+        }
+        assert_eq!(refusal("24e003E6020A4F"), Some(101));
+        assert_eq!(refusal("24E003e6020A4F"), Some(102));
+        // The ten bytes of a test call stay as sent.
+        let text = Asked::TestCall { text: b"abcdefABCD".to_vec() };
+        assert_eq!(asked_under(Rule::SmallToo, "200abcdefABCD"), Ok((b"200".to_vec(), text)));
     }
 
     #[test]

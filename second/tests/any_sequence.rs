@@ -95,6 +95,7 @@ fn frame(dice: &mut Dice) -> Vec<u8> {
             frame[sc..sc + 2].copy_from_slice(b"@@");
         }
         3 => frame = command(0x99, [text, dice.digits(1)].concat().as_bytes()),
+        4 | 5 => frame = command(0x99, text.to_ascii_lowercase().as_bytes()),
         _ => {}
     }
     frame
@@ -111,7 +112,7 @@ fn entry_length(frame: &[u8]) -> Option<usize> {
     let field = |from: usize, to: usize| {
         usize::from_str_radix(&String::from_utf8_lossy(&frame[from..to]), 16).unwrap_or(0)
     };
-    match &frame[3..6] {
+    match frame[3..6].to_ascii_uppercase().as_slice() {
         b"244" | b"246" => Some(5 + 40 * field(9, 12)),
         b"24B" => Some(6),
         b"24C" => Some(5 + 4 * field(11, 13)),
@@ -155,9 +156,11 @@ impl Sequence {
         assert!(board.journal[board.used..].iter().all(|&byte| byte == 0));
     }
 
-    /// Points, columns, integers and flags are as after the writes alone, in order, from fresh.
+    /// Points, columns, integers and flags are as after the writes alone, in order, from fresh: under
+    /// release 2, which answers what release 1 accepts the same.
     fn check_by_replay(&self) {
         let mut alone = bench(65_536);
+        alone.settings.release = 2;
         for frame in &self.writes {
             assert_eq!(alone.hand(frame).0, 0);
         }
@@ -170,17 +173,25 @@ impl Sequence {
 
 #[test]
 fn a_sequence_leaves_what_the_writes_not_taken_back_leave() {
-    let (mut seen, mut dropped) = (BTreeSet::new(), 0);
-    for seed in 1..=60u64 {
+    let (mut seen, mut dropped, mut small_accepted) = (BTreeSet::new(), 0, 0);
+    for seed in 1..=80u64 {
         let mut dice = Dice(seed * 0x9E37_79B9);
         let bench = bench(dice.pick(&[620, 621, 700, 1_200]));
         let mut sequence =
             Sequence { bench, writes: Vec::new(), entries: VecDeque::new(), dropped: 0 };
         for _ in 0..200 {
+            if dice.roll(50) == 0 {
+                sequence.bench.settings.release = dice.pick(&[1, 2, 2]);
+            }
             if dice.roll(12) == 0 {
                 sequence.step_back();
             } else {
-                seen.insert(sequence.hand(&frame(&mut dice)));
+                let (release, frame) = (sequence.bench.settings.release, frame(&mut dice));
+                let number = sequence.hand(&frame);
+                seen.insert(number);
+                let small = frame[3..6].iter().any(u8::is_ascii_lowercase);
+                assert!(number != 0 || !small || release == 2);
+                small_accepted += usize::from(number == 0 && small);
             }
             sequence.check_journal();
             if dice.roll(10) == 0 {
@@ -193,6 +204,7 @@ fn a_sequence_leaves_what_the_writes_not_taken_back_leave() {
     let seen: Vec<u16> = seen.into_iter().collect();
     assert_eq!(seen, [0, 6, 7, 8, 101, 102, 103, 104, 105, 106, 107, 108]);
     assert!(dropped > 500, "{dropped}");
+    assert!(small_accepted > 100, "{small_accepted}");
 }
 
 /// A board of drawn lengths and bytes, often sound.
@@ -235,10 +247,10 @@ fn check_reply(number: u16, text: &[u8], frame: &[u8]) {
     match number {
         0 => {
             assert!(text.len() <= 1_024);
-            assert_eq!(text[..6], [b"#99", &frame[3..6]].concat());
+            assert_eq!(text[..6], [b"#99", frame[3..6].to_ascii_uppercase().as_slice()].concat());
             assert_eq!(text, closed(text[..text.len() - 4].to_vec()));
         }
-        1..=10 => assert!(text.is_empty()),
+        1..=13 => assert!(text.is_empty()),
         _ => assert_eq!(text, error_reply(0x99, number)),
     }
 }
@@ -256,7 +268,8 @@ fn any_call_ends_and_writes_only_what_it_may() {
         let area = dice.pick(&[1_024, 1_024, 1_024, 1_500, 1_023, 1_024, 1_024, 0]);
         let mut reply = dice.bytes(area);
         let (board_before, reply_before) = (board.clone(), reply.clone());
-        let settings = Settings { fitted, station: 0x99, firsts: any_firsts(&mut dice) };
+        let release = dice.pick(&[1, 1, 1, 1, 2, 2, 2, 2, 0, 3]);
+        let settings = Settings { fitted, station: 0x99, release, firsts: any_firsts(&mut dice) };
         let Outcome { number, reply_length } =
             answer(&frame, &mut board, &axes, settings, &mut reply);
         seen.insert(number);
@@ -264,7 +277,7 @@ fn any_call_ends_and_writes_only_what_it_may() {
         assert_eq!(reply[reply_length..], reply_before[reply_length..]);
         assert!(number == 0 || board == board_before);
     }
-    let expected: Vec<u16> = (0..=8).chain([10]).chain(101..=108).collect();
+    let expected: Vec<u16> = (0..=8).chain([10, 13]).chain(101..=108).collect();
     assert_eq!(seen.into_iter().collect::<Vec<u16>>(), expected);
 }
 

@@ -7,6 +7,8 @@ use second::frames::closed;
 use second::journal::least_length;
 use second::{Board, Outcome};
 
+mod wrong_letters;
+
 fn plan(calls: usize) -> Plan {
     Plan { seed: 20_261_115, calls, show: 0 }
 }
@@ -340,15 +342,27 @@ impl Calls for Wrong {
     }
 }
 
+/// The calls find a difference on this board and say where.
+fn is_caught(wrong: &dyn Calls, name: &str) {
+    let Err(difference) = run(&mut Here(wrong), &plan(5_000)) else {
+        panic!("{name} was not caught");
+    };
+    assert!(difference.starts_with("difference at call "), "{difference}");
+    assert!(difference.contains(" of seed 20261115\n"), "{difference}");
+    assert!(difference.contains("\npoints: "), "{difference}");
+}
+
 #[test]
 fn wrong_boards_are_caught() {
     for wrong in ALL {
-        let Err(difference) = run(&mut Here(&wrong), &plan(5_000)) else {
-            panic!("{wrong:?} was not caught");
-        };
-        assert!(difference.starts_with("difference at call "), "{difference}");
-        assert!(difference.contains(" of seed 20261115\n"), "{difference}");
-        assert!(difference.contains("\npoints: "), "{difference}");
+        is_caught(&wrong, &format!("{wrong:?}"));
+    }
+}
+
+#[test]
+fn boards_with_wrong_letters_are_caught() {
+    for wrong in wrong_letters::ALL {
+        is_caught(&wrong, &format!("{wrong:?}"));
     }
 }
 

@@ -264,6 +264,18 @@ fn number_10_new_areas_and_first_numbers() {
 }
 
 #[test]
+fn number_13_releases() {
+    for release in (0..=255).filter(|release| ![1, 2].contains(release)) {
+        assert_eq!(after(|call| call.settings.release = release), 13, "{release}");
+    }
+    for release in [1, 2] {
+        let mut call = Call::good("208");
+        call.settings.release = release;
+        assert_eq!(call.make().number, 0);
+    }
+}
+
+#[test]
 fn number_4_entries_of_integers_and_flags() {
     // Entries of integer 200 and of flag 600, each in the journal alone.
     let integer = [0x49, 0, 6, 0x00, 0xC8, 1, 2, 3, 4];
@@ -303,8 +315,8 @@ fn number_4_entries_of_integers_and_flags() {
     }
 }
 
-/// Tests 1 to 8 and 10, in their order.
-const SILENT: [u16; 9] = [1, 2, 3, 10, 4, 5, 6, 7, 8];
+/// Tests 1 to 8, 10 and 13, in their order.
+const SILENT: [u16; 10] = [1, 2, 3, 10, 4, 5, 13, 6, 7, 8];
 
 /// Those of some numbers whose bit is set, in their order.
 fn chosen(numbers: &[u16], set: usize) -> Vec<u16> {
@@ -321,6 +333,7 @@ fn spoil(call: &mut Call, parts: &mut [&str; 3], number: u16) {
         10 => call.settings.firsts.flag = 0xFED5,
         4 => call.board.used = 1,
         5 => call.settings.fitted = 0,
+        13 => call.settings.release = 3,
         6 => parts[0] = "?",
         7 => parts[2] = "  ",
         _ => parts[1] = "9a",
@@ -328,12 +341,13 @@ fn spoil(call: &mut Call, parts: &mut [&str; 3], number: u16) {
 }
 
 #[test]
-fn among_1_to_8_and_10_the_earliest_is_given() {
+fn among_1_to_8_10_and_13_the_earliest_is_given() {
     for set in 1..1 << SILENT.len() {
         let broken = chosen(&SILENT, set);
         // An unknown message besides: silent refusals come before the error replies.
-        for message in ["208", "299"] {
+        for (message, release) in [("208", 1), ("299", 1), ("208", 2), ("299", 2)] {
             let mut call = Call::good(message);
+            call.settings.release = release;
             let mut parts = ["!", "99", "@@"];
             for &number in &broken {
                 spoil(&mut call, &mut parts, number);
@@ -500,6 +514,11 @@ fn an_error_reply_depends_on_frame_settings_and_n_only() {
     assert_eq!(query.refused(), 106);
     query.settings.firsts.integer = 201;
     assert_eq!(query.make().number, 0);
+    // Whether a small letter is a digit is the release's: no digit, or one too many.
+    let mut count = Call::good("208a");
+    assert_eq!(count.refused(), 102);
+    count.settings.release = 2;
+    assert_eq!(count.refused(), 103);
 }
 
 #[test]

@@ -26,7 +26,7 @@ fn say(reply: &[u8], length: usize) {
     }
 }
 
-// One frame answered, with station 99H, all eight axes and zero records, integers from 200 and flags from 600 on; the journal's used length.
+// One frame answered, with station 99H, release 1, all eight axes and zero records, integers from 200 and flags from 600 on; the journal's used length.
 fn serve(
     frame: &[u8],
     points: &mut [u8],
@@ -40,6 +40,7 @@ fn serve(
     let zeros = [0u8; 72];
     let settings = Settings {
         station: 0x99,
+        release: 1,
         fitted: 0xFF,
     };
     let kept = Kept { used };

@@ -38,8 +38,8 @@ pub record Receives (f : Found) (code start length drop : ℕ) : Type 0 where
   pub drop-is : drop ≡ dropOf f
 
 -- the settings, and what a call gives back
-abbrev pub settingsOf : ℕ → ℕ → Settings
-settingsOf fitted station = record { station = station; fitted = fitted }
+abbrev pub settingsOf : ℕ → ℕ → ℕ → Settings
+settingsOf fitted station release = record { station = station; release = release; fitted = fitted }
 
 abbrev pub keptOf : ℕ → Kept
 keptOf used = record { used = used }

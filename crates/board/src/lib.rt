@@ -62,20 +62,25 @@ pub extern "C" fn cabinet_answer(
     axes: &[u8],
     fitted: u8,
     station: u8,
+    release: u8,
     first_integer: u16,
     first_flag: u16,
     reply: &mut [u8],
     length: &mut usize,
 ) -> u16
     ensures { λ r. ⌜ Answers
-        (callOf (now (frame .entry)) (axesIn (now (axes .entry))) (settingsOf fitted station) (now (reply .entry))
+        (callOf (now (frame .entry)) (axesIn (now (axes .entry))) (settingsOf fitted station release) (now (reply .entry))
         (areasOf (now (points .entry)) (now (columns .entry)) (now (integers .entry)) (now (flags .entry)) (now (journal .entry))
         (keptOf (now (used .entry))) (firstsOf «first_integer» «first_flag»)))
         (answeredOf r (now (length .exit)) (now (used .exit)))
         (areasOf (now (points .exit)) (now (columns .exit)) (now (integers .exit)) (now (flags .exit)) (now (journal .exit))
         (keptOf (now (used .exit))) (firstsOf «first_integer» «first_flag»)) (now (reply .exit)) ⌝ }
 {
-    let settings = Settings { station, fitted };
+    let settings = Settings {
+        station,
+        release,
+        fitted,
+    };
     let kept = Kept { used: *used };
     let firsts = Firsts {
         integer: first_integer,

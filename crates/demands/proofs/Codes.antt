@@ -1,4 +1,4 @@
--- 24EH, then 210H, and 24CH, then 20EH: the very digits that were sent; so for a run of any kind.
+-- 24EH, then 210H, and 24CH, then 20EH: the very digits that were sent, in capitals; so for a run of any kind.
 use Prim.Native.Nat.{ℕ, _+_, _-_, _*_, _≤_, _<_, _^_}
 use mathlib.Core.Path.{_≡_, refl, sym, ap, ap₂, _∙_, subst}
 use mathlib.Core.Bool.{Bool, true, false}
@@ -7,9 +7,10 @@ use native.Mathlib.Omega.{arith}
 use lib.ListN.{length, take, drop, length-take, length-drop, length-append, take-append-drop}
 use lib.Seq.{length-take-le, take-add, take-all, take-at, drop-at}
 use borrow.Author.Tests.{eqb-true, ne-eqb}
-use Rattle.digits.specs.Digits.{byteOf, digitsOf, allDigits, numberOf}
+use Rattle.digits.specs.Digits.{byteOf, capitals, digitsOf, allDigits, numberOf}
 use Rattle.digits.specs.Text.{text}
 use Rattle.digits.proofs.Inverse.{inverse}
+use Rattle.digits.proofs.Capitals.{length-capitals, capitals-append, rejoined}
 use Rattle.digits.proofs.Bools.{was-not}
 use Rattle.frames.proofs.TestID.{is200}
 use Rattle.kinds.specs.declared.Kind.{Kind}
@@ -33,24 +34,30 @@ use Rattle.orders.specs.Orders.{saidBy}
 use Rattle.link.proofs.Carrying.{areas-long}
 use Rattle.demands.specs.History.{ours}
 use Rattle.demands.specs.Reading.{content, startOf, countOf, restOf, untouched, Says, asksRun, digitsFrom, kindIn, RunSaid, RunRead, RunTold}
-use Rattle.demands.proofs.Commands.{messageNamed, named}
+use Rattle.demands.proofs.Commands.{messageNamed, Names, named}
 use Rattle.demands.proofs.Asking.{Open, says, same-start, same-count, query-right, start-said, count-said, asks-right}
 use Rattle.demands.proofs.Parts.{digits-part}
 use Rattle.demands.proofs.Runs.{run-in}
 use Rattle.demands.proofs.Kept.{Standing}
 
--- fields that a reply repeats are the very digits that were sent
+-- fields that a reply repeats are the very digits that were sent, in capitals
 pub fields-back : (program start count : ℕ) (s : List ℕ) → allDigits s ≡ true → program + start + count ≤ length s → numberOf (take program s) ≡ 0
     → digitsOf program 0 ++ (digitsOf start (numberOf (take start (drop program s))) ++ digitsOf count (numberOf (take count (drop (program + start) s))))
-    ≡ take (program + start + count) s
+    ≡ capitals (take (program + start + count) s)
 fields-back program start count s a l z =
-    let p : digitsOf program 0 ≡ take program s =
+    let p : digitsOf program 0 ≡ capitals (take program s) =
     ap (digitsOf program) (sym z) ∙ inverse program .digits-of-value (take program s) (length-take-le program s (omega arith)) (all-take program s a) in
     let q = inverse start .digits-of-value (take start (drop program s)) (length-take-le start (drop program s) (simp length-drop (omega arith))) (all-part start program s a) in
     let r =
     inverse count .digits-of-value (take count (drop (program + start) s)) (length-take-le count (drop (program + start) s) (simp length-drop (omega arith)))
     (all-part count (program + start) s a) in
-    rw (p, q, r, take-add (program + start) count s, take-add program start s) (sym (append-assoc (take program s) (take start (drop program s)) (take count (drop (program + start) s))))
+    let front = take program s in
+    let mid = take start (drop program s) in
+    let back = take count (drop (program + start) s) in
+    rw (p, q, r, take-add (program + start) count s, take-add program start s)
+    (sym (append-assoc (capitals front) (capitals mid) (capitals back))
+    ∙ ap (λ (x : List ℕ). x ++ capitals back) (sym (capitals-append front mid))
+    ∙ sym (capitals-append (front ++ mid) back))
 
 -- a run of any kind that is changed, and a query that reads it, with the same fields
 module _ (id id′ program start count tag : ℕ) (repeats : Bool) where
@@ -65,28 +72,28 @@ module _ (id id′ program start count tag : ℕ) (repeats : Bool) where
     k = kindOf h tag
 
     -- the digits that were sent, as bytes and back
-    sent-back : digitsIn (bytesIn (restOf change s)) ≡ restOf change s
+    sent-back : digitsIn (bytesIn (restOf change s)) ≡ capitals (restOf change s)
     sent-back =
         let d : length (restOf change s) ≡ 2 * (countOf change s * k .unit) = eqb-true _ _ (t .ordered .assured .follows) in
         every-digit (restOf change s) (countOf change s * k .unit) d (all-drop (fieldsOf change) (content s) (t .ordered .assured .digits refl))
 
     -- the digits of a part that is kept are that part of the digits that were sent
     pub part-back : (number many : ℕ) → startOf change s ≤ number → number + many ≤ startOf change s + countOf change s → untouched tag number many later ≡ true
-        → digitsIn (runOf k number many (areaIn tag a)) ≡ take (2 * (many * k .unit)) (drop (2 * ((number - startOf change s) * k .unit)) (restOf change s))
+        → digitsIn (runOf k number many (areaIn tag a)) ≡ take (2 * (many * k .unit)) (drop (2 * ((number - startOf change s) * k .unit)) (capitals (restOf change s)))
     part-back number many l m u =
         ap digitsIn (t .kept refl number many l m u)
         ∙ sym (digits-part (many * k .unit) ((number - startOf change s) * k .unit) (bytesIn (restOf change s)))
         ∙ ap (λ (x : List ℕ). take (2 * (many * k .unit)) (drop (2 * ((number - startOf change s) * k .unit)) x)) sent-back
 
     all-back : untouched tag (startOf change s) (countOf change s) later ≡ true
-        → digitsIn (runOf k (startOf change s) (countOf change s) (areaIn tag a)) ≡ restOf change s
+        → digitsIn (runOf k (startOf change s) (countOf change s) (areaIn tag a)) ≡ capitals (restOf change s)
     all-back u =
         let n : startOf change s - startOf change s ≡ 0 = omega arith in
         let z : 2 * ((startOf change s - startOf change s) * k .unit) ≡ 0 = ap (λ (x : ℕ). 2 * (x * k .unit)) n ∙ omega arith in
         let d : length (restOf change s) ≡ 2 * (countOf change s * k .unit) = eqb-true _ _ (t .ordered .assured .follows) in
         part-back (startOf change s) (countOf change s) (omega arith) (omega arith) u
-        ∙ ap (λ (x : ℕ). take (2 * (countOf change s * k .unit)) (drop x (restOf change s))) z
-        ∙ take-all (2 * (countOf change s * k .unit)) (restOf change s) (omega arith)
+        ∙ ap (λ (x : ℕ). take (2 * (countOf change s * k .unit)) (drop x (capitals (restOf change s)))) z
+        ∙ take-all (2 * (countOf change s * k .unit)) (capitals (restOf change s)) (omega (arith, length-capitals (restOf change s)))
 
     -- what a query of any run says
     pub said-run : (number many : ℕ) (x : Sent) (frame : List ℕ)
@@ -94,30 +101,30 @@ module _ (id id′ program start count tag : ℕ) (repeats : Bool) where
         ≡ headOf read number many ++ digitsIn (runOf k number many (areaIn tag a))
     said-run number many x frame = ap (λ (y : Held). runText read (kindOf y tag) number many (areaIn tag a)) (t .is-held)
 
-    -- a query of the same run says the ID and the very content that was sent
+    -- a query of the same run says the ID and the very content that was sent, in capitals
     pub said-back : 1 ≤ count → untouched tag (startOf change s) (countOf change s) later ≡ true → (x : Sent) (frame : List ℕ)
-        → saidBy ReadRun (heldIn (lengthsOf a)) (sentOf frame (x .axes) (x .settings) (x .reply)) read (startIn read (take (fieldsOf change) (content s)))
-        (countIn read (take (fieldsOf change) (content s)))
+        → saidBy ReadRun (heldIn (lengthsOf a)) (sentOf frame (x .axes) (x .settings) (x .reply)) read (startIn read (capitals (take (fieldsOf change) (content s))))
+        (countIn read (capitals (take (fieldsOf change) (content s))))
         (areaIn tag a)
-        ≡ digitsOf 3 id′ ++ content s
+        ≡ digitsOf 3 id′ ++ capitals (content s)
     said-back some u x frame =
         let c = content s in
         let n : countOf change s ≡ numberOf (take count (drop (program + start) c)) = rw (ne-eqb count 0 (λ e. omega (arith, some, e))) in
         let o = t .ordered in
-        said-run (startIn read (take (fieldsOf change) c)) (countIn read (take (fieldsOf change) c)) x frame
+        said-run (startIn read (capitals (take (fieldsOf change) c))) (countIn read (capitals (take (fieldsOf change) c))) x frame
         ∙ ap₂ (λ (n m : ℕ). headOf read n m ++ digitsIn (runOf k n m (areaIn tag a)))
         (same-start id id′ program start count tag RunBytes ChangeRun ReadRun repeats true c)
         (same-count id id′ program start count tag RunBytes ChangeRun ReadRun repeats true c)
         ∙ ap (λ (y : List ℕ). headOf read (startOf change s) (countOf change s) ++ y) (all-back u)
-        ∙ append-assoc (digitsOf 3 id′) (digitsOf program 0 ++ (digitsOf start (startOf change s) ++ digitsOf count (countOf change s))) (drop (fieldsOf change) c)
-        ∙ ap (λ (y : ℕ). digitsOf 3 id′ ++ ((digitsOf program 0 ++ (digitsOf start (startOf change s) ++ digitsOf count y)) ++ drop (fieldsOf change) c)) n
-        ∙ ap (λ (y : List ℕ). digitsOf 3 id′ ++ (y ++ drop (fieldsOf change) c))
+        ∙ append-assoc (digitsOf 3 id′) (digitsOf program 0 ++ (digitsOf start (startOf change s) ++ digitsOf count (countOf change s))) (capitals (drop (fieldsOf change) c))
+        ∙ ap (λ (y : ℕ). digitsOf 3 id′ ++ ((digitsOf program 0 ++ (digitsOf start (startOf change s) ++ digitsOf count y)) ++ capitals (drop (fieldsOf change) c))) n
+        ∙ ap (λ (y : List ℕ). digitsOf 3 id′ ++ (y ++ capitals (drop (fieldsOf change) c)))
         (fields-back program start count c (o .assured .digits refl) (o .assured .fields) (eqb-true _ _ (was-not (o .right .program))))
-        ∙ ap (λ (y : List ℕ). digitsOf 3 id′ ++ y) (take-append-drop (fieldsOf change) c)
+        ∙ ap (λ (y : List ℕ). digitsOf 3 id′ ++ y) (rejoined (fieldsOf change) c)
 
 -- the query of a kind's runs: as the table has it, and the numbers of its kind fit into its fields
 pub record Query (name : List ℕ) (id tag : ℕ) : Type 0 where
-  pub is-named : messageNamed name ≡ Known (row id 2 3 2 tag Nothing ReadRun true)
+  pub is-named : Names name (row id 2 3 2 tag Nothing ReadRun true)
   pub is-written : digitsOf 3 id ≡ name
   pub other : is200 name ≡ false
   pub narrow : (h : Held) → Sound h → kindOf h tag .first + kindOf h tag .held ≤ 4096
@@ -136,7 +143,7 @@ module _ {name : List ℕ} {id tag : ℕ} (q : Query name id tag) where
 
   -- what is asked by it
   asks-it : (a : Areas) (fields said : List ℕ) → Open a → length fields ≤ 7
-      → ((fitted : ℕ) → Right (heldIn (lengthsOf a)) fitted (row id 2 3 2 tag Nothing ReadRun true) fields)
+      → ((fitted release : ℕ) → Right (heldIn (lengthsOf a)) fitted release (row id 2 3 2 tag Nothing ReadRun true) fields)
       → ((h : Sent) (frame : List ℕ)
       → saidBy ReadRun (heldIn (lengthsOf a)) (sentOf frame (h .axes) (h .settings) (h .reply)) (row id 2 3 2 tag Nothing ReadRun true)
       (startIn (row id 2 3 2 tag Nothing ReadRun true) fields)
@@ -148,8 +155,8 @@ module _ {name : List ℕ} {id tag : ℕ} (q : Query name id tag) where
       let m = row id 2 3 2 tag Nothing ReadRun true in
       let d : drop 3 (name ++ fields) ≡ fields = drop-at name fields 3 three in
       let n = length-append name fields in
-      says a (name ++ fields) said m o (omega (arith, n, three)) (omega (arith, n, three, l)) (rw (take-at name fields 3 three, q .other)) (ap messageNamed (take-at name fields 3 three) ∙ q .is-named)
-      (λ fitted. subst (Right (heldIn (lengthsOf a)) fitted m) (sym d) (r fitted))
+      says a (name ++ fields) said m o (omega (arith, n, three)) (omega (arith, n, three, l)) (rw (take-at name fields 3 three, q .other)) (λ release. ap (messageNamed release) (take-at name fields 3 three) ∙ q .is-named release)
+      (λ fitted release. subst (Right (heldIn (lengthsOf a)) fitted release m) (sym d) (r fitted release))
       (λ h frame.
       ap (λ (x : List ℕ). saidBy ReadRun (heldIn (lengthsOf a)) (sentOf frame (h .axes) (h .settings) (h .reply)) m (startIn m x) (countIn m x) (areaIn tag a)) d ∙ t h frame)
 
@@ -177,11 +184,11 @@ module _ {name : List ℕ} {id tag : ℕ} (q : Query name id tag) where
     abbrev m : Message
     m = row changed 2 3 2 tag RunBytes ChangeRun repeats
 
-    whole : untouched tag (startOf m s) (countOf m s) later ≡ true → Says ours a (name ++ take 7 (content s)) (name ++ content s)
+    whole : untouched tag (startOf m s) (countOf m s) later ≡ true → Says ours a (name ++ capitals (take 7 (content s))) (name ++ capitals (content s))
     whole u =
-        asks-it a (take 7 (content s)) (name ++ content s) (t .is-open) (simp length-take (omega arith))
+        asks-it a (capitals (take 7 (content s))) (name ++ capitals (content s)) (t .is-open) (simp (length-capitals, length-take) (omega arith))
         (query-right changed id 2 3 2 tag RunBytes ChangeRun ReadRun repeats true (heldIn (lengthsOf a)) s (t .ordered) refl)
-        (λ x frame. said-back changed id 2 3 2 tag repeats t (omega arith) u x frame ∙ ap (λ (y : List ℕ). y ++ content s) (q .is-written))
+        (λ x frame. said-back changed id 2 3 2 tag repeats t (omega arith) u x frame ∙ ap (λ (y : List ℕ). y ++ capitals (content s)) (q .is-written))
 
     -- numbers that a host may ask for
     module _ (start count : ℕ) (some : 1 ≤ count) (few : count ≤ 255) (all : holds (kindIn tag a) start count ≡ true) where
@@ -190,7 +197,7 @@ module _ {name : List ℕ} {id tag : ℕ} (q : Query name id tag) where
 
       in-place : (number many : ℕ) → startOf m s ≤ number → number + many ≤ startOf m s + countOf m s → start ≤ number → number + many ≤ start + count
           → untouched tag number many later ≡ true
-          → digitsFrom (kindIn tag a .unit) start number many (digitsIn here) ≡ digitsFrom (kindIn tag a .unit) (startOf m s) number many (restOf m s)
+          → digitsFrom (kindIn tag a .unit) start number many (digitsIn here) ≡ digitsFrom (kindIn tag a .unit) (startOf m s) number many (capitals (restOf m s))
       in-place number many l n p r u =
           let k = kindIn tag a in
           digits-part (many * k .unit) ((number - start) * k .unit) here

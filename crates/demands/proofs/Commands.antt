@@ -8,12 +8,12 @@ use lib.Dec.{eqb}
 use lib.ListN.{length, take, drop, getD, length-append, length-drop}
 use lib.Seq.{length-take-le, take-append-le, drop-append-le, take-at, drop-at, getD-at}
 use borrow.Author.Tests.{eqb-true, eqb-false, eq-eqb, ne-eqb, le-leb}
-use Rattle.digits.specs.Digits.{isDigit, worthOf, digitsOf, allDigits, numberOf}
+use Rattle.digits.specs.Digits.{admits, worthOf, digitsOf, admitted, numberOf}
 use Rattle.digits.specs.Text.{text}
 use Rattle.digits.proofs.Inverse.{inverse, and-left, and-right}
 use Rattle.frames.specs.Frame.{CR, LF, stationIn, messageIn, contentIn, scIn, scOf, testCallFits, shaped, sumTrue, sumOff, sumPasses, stationPasses}
 use Rattle.frames.proofs.Bools.{or-true}
-use Rattle.frames.proofs.Promised.{closed-true, says-digits}
+use Rattle.frames.proofs.Promised.{closed-true, own-digits}
 use Rattle.frames.proofs.TestID.{is200, by-message}
 use Rattle.kinds.specs.Kinds.{pointsTag, columnsTag, integersTag, flagsTag}
 use Rattle.table.specs.declared.Follows.the-variants.{Nothing, TenBytes, Points, RunBytes, ChangeType}
@@ -23,6 +23,8 @@ use Rattle.table.specs.declared.Named.{Named}
 use Rattle.table.specs.declared.Named.the-variants.{Known, Unknown}
 use Rattle.table.specs.Table.{row, messageNumbered, messageOf}
 use Rattle.messages.proofs.Shapes.{in-frame}
+use Rattle.calls.specs.Calls.{Sent}
+use Rattle.demands.specs.History.{messageBy}
 use Rattle.demands.specs.Reading.{before, commandOf}
 
 -- what is said with '200' before it has thirteen bytes, so that its frame has 20 (02, c)
@@ -99,51 +101,50 @@ off : (station : ℕ) (said : List ℕ) → sumOff (framed station said (text "@
 unfolding sumOff
 off station said = rw (is-sc station said (text "@@") refl)
 
--- a frame that passes the tests 6 to 8 of a station, with what it says
-pub record Heard (station : ℕ) (said frame : List ℕ) : Type 0 where
+-- a frame that passes the tests 6 to 8 of a station under a release, with what it says
+pub record Heard (release station : ℕ) (said frame : List ℕ) : Type 0 where
   pub has-shape : shaped frame ≡ true
-  pub has-sum : sumPasses frame ≡ true
-  pub has-station : stationPasses station frame ≡ true
+  pub has-sum : sumPasses release frame ≡ true
+  pub has-station : stationPasses release station frame ≡ true
   pub message : messageIn frame ≡ take 3 said
   pub content : contentIn frame ≡ drop 3 said
 
 -- test 8: the station's own two digits
-ours : (station : ℕ) (said sc : List ℕ) → station < 256 → stationPasses station (framed station said sc) ≡ true
+ours : (release station : ℕ) (said sc : List ℕ) → station < 256 → stationPasses release station (framed station said sc) ≡ true
 unfolding stationPasses
-ours station said sc h = says-digits (digitsOf 2 station) station refl h .1 refl
+ours release station said sc h = own-digits release station h
 
 -- test 7: the SC is true, or it is '@@'
-summed : (checked : Bool) (station : ℕ) (said : List ℕ) → sumPasses (commandOf checked station said) ≡ true
+summed : (release : ℕ) (checked : Bool) (station : ℕ) (said : List ℕ) → sumPasses release (commandOf checked station said) ≡ true
 unfolding sumPasses
-summed true station said = rw (closed-true (before station said))
-summed false station said = rw (off station said) (or-true (sumTrue (framed station said (text "@@"))))
+summed release true station said = rw (closed-true (before station said) release)
+summed release false station said = rw (off station said) (or-true (sumTrue release (framed station said (text "@@"))))
 
 -- whatever its SC, if it passes
-heard-with : (station : ℕ) (said sc : List ℕ) → length sc ≡ 2 → sumPasses (framed station said sc) ≡ true → station < 256 → 3 ≤ length said → length said ≤ 1016 → testFits said ≡ true
-    → Heard station said (framed station said sc)
-heard-with station said sc two sum byte least most fits =
+heard-with : (release station : ℕ) (said sc : List ℕ) → length sc ≡ 2 → sumPasses release (framed station said sc) ≡ true → station < 256 → 3 ≤ length said
+    → length said ≤ 1016 → testFits said ≡ true → Heard release station said (framed station said sc)
+heard-with release station said sc two sum byte least most fits =
     record {
       has-shape = is-shaped station said sc two least most fits;
       has-sum = sum;
-      has-station = ours station said sc byte;
+      has-station = ours release station said sc byte;
       message = is-message station said sc two least;
       content = is-content station said sc two least;
     }
 
 -- a command is heard, with a true SC and with '@@'
-pub heard : (checked : Bool) (station : ℕ) (said : List ℕ) → station < 256 → 3 ≤ length said → length said ≤ 1016 → testFits said ≡ true
-    → Heard station said (commandOf checked station said)
-heard true station said = heard-with station said (scOf (before station said)) refl (summed true station said)
-heard false station said = heard-with station said (text "@@") refl (summed false station said)
+pub heard : (release : ℕ) (checked : Bool) (station : ℕ) (said : List ℕ) → station < 256 → 3 ≤ length said → length said ≤ 1016 → testFits said ≡ true
+    → Heard release station said (commandOf checked station said)
+heard release true station said = heard-with release station said (scOf (before station said)) refl (summed release true station said)
+heard release false station said = heard-with release station said (text "@@") refl (summed release false station said)
 
 -- a station that a frame's two digits write is a byte
-pub station-byte : (station : ℕ) (frame : List ℕ) → 10 ≤ length frame → stationPasses station frame ≡ true → station < 256
+pub station-byte : (release station : ℕ) (frame : List ℕ) → 10 ≤ length frame → stationPasses release station frame ≡ true → station < 256
 unfolding stationPasses
-station-byte station frame h e =
+station-byte release station frame h e =
     let s = stationIn frame in
     let l : length s ≡ 2 = length-take-le 2 (drop 1 frame) (simp length-drop (omega arith)) in
-    let a : allDigits s ≡ true = and-left (allDigits s) (eqb (numberOf s) station) e in
-    let v : numberOf s ≡ station = eqb-true (numberOf s) station (and-right (allDigits s) (eqb (numberOf s) station) e) in
+    let v : numberOf s ≡ station = eqb-true (numberOf s) station (and-right (admitted release s) (eqb (numberOf s) station) e) in
     let b : numberOf s < 16 ^ 2 = inverse 2 .bound s l in
     omega arith
 
@@ -183,12 +184,12 @@ abbrev pub setting : Message
 setting = row 0x24B 2 4 0 flagsTag ChangeType SetFlag false
 
 -- the table's row of an ID is the one that a frame's message with that ID is
-numbered : (frame : List ℕ) {m : Message} → messageOf frame ≡ Known m → messageNumbered (m .id) ≡ Known m
+numbered : (s : Sent) {m : Message} → messageBy s ≡ Known m → messageNumbered (m .id) ≡ Known m
 unfolding messageNumbered
-numbered frame e = in-frame (λ (m : Message). messageNumbered (m .id) ≡ Known m) frame (refl, (refl, (refl, (refl, (refl, (refl, (refl, (refl, (refl, (refl, (refl, (refl, tt)))))))))))) e
+numbered s e = in-frame (λ (m : Message). messageNumbered (m .id) ≡ Known m) (s .settings .release) (s .frame) (refl, (refl, (refl, (refl, (refl, (refl, (refl, (refl, (refl, (refl, (refl, (refl, tt)))))))))))) e
 
-pub row-of : (frame : List ℕ) {m : Message} (id : ℕ) (r : Message) → messageOf frame ≡ Known m → m .id ≡ id → messageNumbered id ≡ Known r → m ≡ r
-row-of frame {m} id r e i n = let k : Known m ≡ Known r = sym (numbered frame e) ∙ ap messageNumbered i ∙ n in cc
+pub row-of : (s : Sent) {m : Message} (id : ℕ) (r : Message) → messageBy s ≡ Known m → m .id ≡ id → messageNumbered id ≡ Known r → m ≡ r
+row-of s {m} id r e i n = let k : Known m ≡ Known r = sym (numbered s e) ∙ ap messageNumbered i ∙ n in cc
 
 -- 244H, 246H, 24EH, 24CH and 24BH are these
 pub rows : (messageNumbered 0x244 ≡ Known writing) × (messageNumbered 0x246 ≡ Known clearing) × (messageNumbered 0x24E ≡ Known changing)
@@ -196,17 +197,21 @@ pub rows : (messageNumbered 0x244 ≡ Known writing) × (messageNumbered 0x246 �
 unfolding messageNumbered
 rows = (refl, refl, refl, refl, refl)
 
--- the message that an ID names
-abbrev pub messageNamed : List ℕ → Named
-messageNamed id = cond (allDigits id) (messageNumbered (numberOf id)) Unknown
+-- the message that an ID names under a release
+abbrev pub messageNamed : ℕ → List ℕ → Named
+messageNamed release id = cond (admitted release id) (messageNumbered (numberOf id)) Unknown
 
 -- a frame's message is the one that its ID names
-pub message-of : (frame id : List ℕ) → messageIn frame ≡ id → messageOf frame ≡ messageNamed id
+pub message-of : (release : ℕ) (frame id : List ℕ) → messageIn frame ≡ id → messageOf release frame ≡ messageNamed release id
 unfolding messageOf
-message-of frame id e = rw e
+message-of release frame id e = rw e
+
+-- an ID names this message under every release
+abbrev pub Names : List ℕ → Message → Type 0
+Names id m = (release : ℕ) → messageNamed release id ≡ Known m
 
 -- 208H, 209H, 210H, 20EH, 20DH and 200H are known
-pub named : (messageNamed (text "208") ≡ Known counting) × (messageNamed (text "209") ≡ Known listing) × (messageNamed (text "210") ≡ Known reading)
-    × (messageNamed (text "20E") ≡ Known readingIntegers) × (messageNamed (text "20D") ≡ Known showing) × (messageNamed (text "200") ≡ Known testing)
-unfolding isDigit worthOf messageNumbered
-named = (refl, refl, refl, refl, refl, refl)
+pub named : Names (text "208") counting × Names (text "209") listing × Names (text "210") reading × Names (text "20E") readingIntegers
+    × Names (text "20D") showing × Names (text "200") testing
+unfolding admits worthOf messageNumbered
+named = (λ r. refl, λ r. refl, λ r. refl, λ r. refl, λ r. refl, λ r. refl)

@@ -21,7 +21,7 @@ use Rattle.journal.proofs.Back.{split-last}
 use Rattle.journal.proofs.Promised.{newest, last-added, others-added}
 use Rattle.frames.specs.Frame.{contentIn}
 use Rattle.table.specs.declared.Named.{Named}
-use Rattle.table.specs.Table.{messageOf, restIn}
+use Rattle.table.specs.Table.{restIn}
 use Rattle.messages.specs.Asked.{askedOf}
 use Rattle.messages.proofs.Judged.{told}
 use Rattle.calls.specs.Calls.{Areas, Sent, Outcome, fresh, areaIn, putIn, oldEntry, withEntries, steppedBack}
@@ -30,7 +30,7 @@ use Rattle.orders.specs.Orders.{newBytes}
 use Rattle.link.specs.Answer.{asked, answerOf, backOf}
 use Rattle.link.proofs.Answering.{accepted-back}
 use Rattle.demands.specs.Refused.{asksWrite}
-use Rattle.demands.specs.History.{ours, Event, frame, stepBack, callOn, after, acceptedWrite, butLast, standing, Past, past, alone, allAccepted, entries, runSaid, entrySaid, entryBy, stored, account, entered, Holds, EveryHistory}
+use Rattle.demands.specs.History.{messageBy, ours, Event, frame, stepBack, callOn, after, acceptedWrite, butLast, standing, Past, past, alone, allAccepted, entries, runSaid, entrySaid, entryBy, stored, account, entered, Holds, EveryHistory}
 use Rattle.demands.proofs.Refused.{one-number, changes-nothing, query-changes-nothing}
 use Rattle.demands.proofs.Shaped.{Bounds, Shape, takes, numberOn, held-is, journal-long, entries-held, same-entries, takes-is, back-is}
 use Rattle.demands.proofs.Wrote.{Writes, ordered, entryOf, oldBy, writtenBy, wrote, same-put, undone, shaped}
@@ -122,7 +122,7 @@ module _ {held : Held} {size : ℕ} (b : Bounds held size) where
 
   -- what a write orders, and that it is done on any such areas
   pub order-of : (s : Sent) → takes held s ≡ true → Writes held s
-  order-of s e = ordered held s (and-right (eqb (numberOn held s) 0) (asksWrite (askedOf held (s .settings .fitted) (s .frame))) e)
+  order-of s e = ordered held s (and-right (eqb (numberOn held s) 0) (asksWrite (askedOf held (s .settings .fitted) (s .settings .release) (s .frame))) e)
 
   record Done (s : Sent) (w : Writes held s) (a : Areas) (es : List Entry) : Type 0 where
     did : after ours a (frame s) ≡ writtenBy w a
@@ -147,12 +147,12 @@ module _ {held : Held} {size : ℕ} (b : Bounds held size) where
       (all-accepted ws (after ours a (frame s)) (record { holding = _; shape = done-on s (t .0) (h .shape) .next }) (t .1))
 
   -- what a write's content says is what is put
-  pub said-is : {s : Sent} (w : Writes held s) → runSaid held (messageOf (s .frame)) (contentIn (s .frame)) ≡ entryOf w
+  pub said-is : {s : Sent} (w : Writes held s) → runSaid held (messageBy s) (contentIn (s .frame)) ≡ entryOf w
   unfolding askedOf
   said-is {s} w =
       let m = w .message in
       let content = contentIn (s .frame) in
-      let t = told held (s .settings .fitted) (messageOf (s .frame)) content m (w .start) (w .count) (w .order) in
+      let t = told held (s .settings .fitted) (s .settings .release) (messageBy s) content m (w .start) (w .count) (w .order) in
       ap (λ (n : Named). runSaid held n content) (t .message)
       ∙ ap₂ (λ (x y : ℕ). entryFor (m .tag) x (newBytes (m .does) (kindOf held (m .tag) .unit) y (restIn m content))) (sym (t .start-is)) (sym (t .count-is))
 
@@ -162,7 +162,7 @@ module _ {held : Held} {size : ℕ} (b : Bounds held size) where
   entry-is {s} w a =
       let m = w .message in
       let content = contentIn (s .frame) in
-      let t = told held (s .settings .fitted) (messageOf (s .frame)) content m (w .start) (w .count) (w .order) in
+      let t = told held (s .settings .fitted) (s .settings .release) (messageBy s) content m (w .start) (w .count) (w .order) in
       ap (λ (n : Named). entrySaid held n content a) (t .message)
       ∙ ap₂ (λ (x y : ℕ). oldEntry held (m .tag) x y a) (sym (t .start-is)) (sym (t .count-is))
 
@@ -172,7 +172,7 @@ module _ {held : Held} {size : ℕ} (b : Bounds held size) where
   stored-same s e a a′ h same t =
       ap (areaIn t) (done-on s e (h .shape) .did)
       ∙ ap (λ (x : Entry). areaIn t (putIn held x a)) (sym (said-is (order-of s e)))
-      ∙ same-put held (runSaid held (messageOf (s .frame)) (contentIn (s .frame))) a a′ same t
+      ∙ same-put held (runSaid held (messageBy s) (contentIn (s .frame))) a a′ same t
 
   some-after : (s : Sent) (e : takes held s ≡ true) (a : Areas) → Some a → Some (after ours a (frame s))
   some-after s e a h = record { holding = _; shape = done-on s e (h .shape) .next }

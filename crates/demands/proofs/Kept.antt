@@ -38,8 +38,8 @@ pub record Standing (h : Held) (a : Areas) (m : Message) (s : Sent) (later : Lis
 
 -- a query that is right for what is held is right for the areas
 pub right-here : {h : Held} {a : Areas} {m : Message} {s : Sent} {later : List Sent} → Standing h a m s later → {q : Message} {c : List ℕ}
-    → ((fitted : ℕ) → Right h fitted q c) → (fitted : ℕ) → Right (heldIn (lengthsOf a)) fitted q c
-right-here t {q} {c} r fitted = subst (λ (x : Held). Right x fitted q c) (sym (t .is-held)) (r fitted)
+    → ((fitted release : ℕ) → Right h fitted release q c) → (fitted release : ℕ) → Right (heldIn (lengthsOf a)) fitted release q c
+right-here t {q} {c} r fitted release = subst (λ (x : Held). Right x fitted release q c) (sym (t .is-held)) (r fitted release)
 
 -- the areas that an accepted frame leaves are such
 pub standing-next : (m : Message) (c : Call) → Took m c → Bytes (c .areas .journal) → Standing (held c) (answerOf c .areas) m (c .sent) []

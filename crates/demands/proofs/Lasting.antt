@@ -16,13 +16,13 @@ use Rattle.journal.specs.Journal.{Entry}
 use Rattle.table.specs.declared.Message.{Message}
 use Rattle.table.specs.declared.Named.{Named}
 use Rattle.table.specs.declared.Named.the-variants.{Known}
-use Rattle.table.specs.Table.{messageOf, startIn, countIn}
+use Rattle.table.specs.Table.{startIn, countIn}
 use Rattle.messages.specs.Asked.{askedOf}
 use Rattle.messages.proofs.Judged.{told}
 use Rattle.calls.specs.Calls.{Areas, Sent, fresh, areaIn, putIn}
 use Rattle.orders.specs.Orders.{writes}
 use Rattle.orders.proofs.Judging.{writable}
-use Rattle.demands.specs.History.{Past, runSaid, account}
+use Rattle.demands.specs.History.{messageBy, Past, runSaid, account}
 use Rattle.demands.specs.Reading.{content, startOf, countOf, spares, untouched}
 use Rattle.demands.proofs.Asking.{Ordered, ordered-so}
 use Rattle.demands.proofs.Shaped.{Bounds, takes, held-is, passes}
@@ -38,11 +38,11 @@ Long held a = (t : ℕ) → length (areaIn t a) ≡ sizeOf (kindOf held t)
 
 -- a write leaves the numbers that it spares
 one-spared : {held : Held} {s : Sent} (w : Writes held s) (a : Areas) → Long held a → (tag number many : ℕ) → kindOf held tag .first ≤ number
-    → spares tag number many (messageOf (s .frame)) (content s) ≡ true
+    → spares tag number many (messageBy s) (content s) ≡ true
     → runOf (kindOf held tag) number many (areaIn tag (putIn held (entryOf w) a)) ≡ runOf (kindOf held tag) number many (areaIn tag a)
 unfolding askedOf
 one-spared {held} {s} w a l tag number many =
-    let t = told held (s .settings .fitted) (messageOf (s .frame)) (content s) (w .message) (w .start) (w .count) (w .order) in
+    let t = told held (s .settings .fitted) (s .settings .release) (messageBy s) (content s) (w .message) (w .start) (w .count) (w .order) in
     λ f q. go (eqb (w .message .tag) tag) refl f (t .start-is) (t .count-is) (sym (ap (λ (n : Named). spares tag number many n (content s)) (t .message)) ∙ q)
   where
     m : Message
@@ -69,7 +69,7 @@ one-spared {held} {s} w a l tag number many =
 -- accounts one behind the other
 account-append : (held : Held) (a : Areas) (xs ys : List Sent) → account held a (xs ++ ys) ≡ account held (account held a xs) ys
 account-append held a [] ys = refl
-account-append held a (x ∷ xs) ys = account-append held (putIn held (runSaid held (messageOf (x .frame)) (contentIn (x .frame))) a) xs ys
+account-append held a (x ∷ xs) ys = account-append held (putIn held (runSaid held (messageBy x) (contentIn (x .frame))) a) xs ys
 
 module _ {held : Held} {size : ℕ} (b : Bounds held size) where
   -- later writes leave the numbers that they all spare
@@ -80,8 +80,8 @@ module _ {held : Held} {size : ℕ} (b : Bounds held size) where
   spared tag number many f (s ∷ later) t a l u =
       let w = order-of b s (t .0) in
       let e = said-is b w in
-      let x = spares tag number many (messageOf (s .frame)) (content s) in
-      spared tag number many f later (t .1) (putIn held (runSaid held (messageOf (s .frame)) (contentIn (s .frame))) a)
+      let x = spares tag number many (messageBy s) (content s) in
+      spared tag number many f later (t .1) (putIn held (runSaid held (messageBy s) (contentIn (s .frame))) a)
       (subst (λ (y : Entry). Long held (putIn held y a)) (sym e) (long-again w a l))
       (and-right x (untouched tag number many later) u)
       ∙ ap (λ (y : Entry). runOf (kindOf held tag) number many (areaIn tag (putIn held y a))) e
@@ -92,7 +92,7 @@ module _ {held : Held} {size : ℕ} (b : Bounds held size) where
   took-parts [] later s t = (tt, t .0, t .1)
   took-parts (x ∷ earlier) later s t = let r = took-parts earlier later s (t .1) in ((t .0, r .0), r .1, r .2)
 
-  module _ (p : Past) (v : Inv b p) (earlier later : List Sent) (s : Sent) (m : Message) (q : p .standing-writes ≡ earlier ++ (s ∷ later)) (known : messageOf (s .frame) ≡ Known m) where
+  module _ (p : Past) (v : Inv b p) (earlier later : List Sent) (s : Sent) (m : Message) (q : p .standing-writes ≡ earlier ++ (s ∷ later)) (known : messageBy s ≡ Known m) where
     parts : AllTook b earlier × (takes held s ≡ true) × AllTook b later
     parts = took-parts earlier later s (subst (AllTook b) q (v .took))
 
@@ -109,7 +109,7 @@ module _ {held : Held} {size : ℕ} (b : Bounds held size) where
         ∙ alone-from b earlier (parts .0) .shape .long t
 
     abbrev its : Entry
-    its = runSaid held (messageOf (s .frame)) (contentIn (s .frame))
+    its = runSaid held (messageBy s) (contentIn (s .frame))
 
     new-long : Long held (putIn held its old)
     new-long = subst (λ (y : Entry). Long held (putIn held y old)) (sym (said-is b (order-of b s (parts .1)))) (long-again (order-of b s (parts .1)) old old-long)

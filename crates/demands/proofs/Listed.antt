@@ -7,9 +7,10 @@ use native.Mathlib.Omega.{arith}
 use lib.ListN.{length, take, drop, getD, length-append, length-take, length-drop, take-append-drop}
 use lib.Seq.{take-all}
 use borrow.Author.Tests.{eqb-true, le-leb}
-use Rattle.digits.specs.Digits.{byteOf, digitsOf, allDigits}
+use Rattle.digits.specs.Digits.{byteOf, capitals, digitsOf, allDigits}
 use Rattle.digits.specs.Text.{text}
 use Rattle.digits.proofs.Inverse.{inverse}
+use Rattle.digits.proofs.Capitals.{length-capitals}
 use Rattle.digits.proofs.Bools.{was-not}
 use Rattle.kinds.specs.declared.Held.{Held}
 use Rattle.kinds.specs.Kinds.{pointsTag, pointsOf, heldIn, holds, runOf}
@@ -21,6 +22,7 @@ use Rattle.table.specs.declared.Action.the-variants.{ListPoints, WritePoints, C
 use Rattle.table.specs.declared.Message.{Message}
 use Rattle.table.specs.Table.{row, startIn, countIn, patternsFit}
 use Rattle.messages.proofs.Judged.{Right}
+use Rattle.messages.proofs.Capitals as capital
 use Rattle.points.proofs.Parts.{all-drop}
 use Rattle.listing.specs.Listing.{listed}
 use Rattle.calls.specs.Calls.{Areas, Sent, lengthsOf}
@@ -37,7 +39,7 @@ use Rattle.demands.proofs.Kept.{Standing, right-here}
 use Rattle.demands.proofs.Slots.{listed-sent, listed-one-sent, listed-zero, zero-part}
 
 -- what a 209H lists, from the slots that it names on
-list-said : (a : Areas) (s : List ℕ) (ls : List (List ℕ)) → Open a → ((fitted : ℕ) → Right (heldIn (lengthsOf a)) fitted listing s) → length s ≤ 6
+list-said : (a : Areas) (s : List ℕ) (ls : List (List ℕ)) → Open a → ((fitted release : ℕ) → Right (heldIn (lengthsOf a)) fitted release listing s) → length s ≤ 6
     → listed 1011 (countIn listing s) (startIn listing s) (drop ((startIn listing s - 1) * 40) (a .points)) ≡ ls → Says ours a (text "209" ++ s) (lists ls)
 unfolding byteOf
 list-said a s ls o r h e =
@@ -53,7 +55,7 @@ module _ (a : Areas) (o : Open a) where
   unfolding byteOf
   counted =
       says a (text "208") (text "208" ++ digitsOf 3 (effectiveOf a)) counting o (omega arith) (omega arith) refl (named .0)
-      (λ fitted. record { digits = refl; long = refl; program = refl; some = refl; held-all = refl; pattern = refl; type = refl })
+      (λ fitted release. record { digits = refl; long = refl; program = refl; some = refl; held-all = refl; pattern = refl; type = refl })
       (λ x frame. refl)
 
   -- a 209H of any points lists those of them that are effective
@@ -157,9 +159,9 @@ module _ {h : Held} {a : Areas} {s : Sent} {later : List Sent} (t : Standing h a
       record {
         kind = refl;
         listed = λ u.
-            list-said a (take 6 (content s)) (fitting 1011 (sentBy writing s)) (t .is-open)
+            list-said a (capitals (take 6 (content s))) (fitting 1011 (sentBy writing s)) (t .is-open)
             (right-here t (query-right 0x244 0x209 0 3 3 pointsTag Points WritePoints ListPoints true _ h s (t .ordered) refl))
-            (simp length-take (omega arith))
+            (simp (length-capitals, length-take) (omega arith))
             (rw (
               same-start 0x244 0x209 0 3 3 pointsTag Points WritePoints ListPoints true true (content s),
               same-count 0x244 0x209 0 3 3 pointsTag Points WritePoints ListPoints true true (content s),
@@ -185,11 +187,11 @@ module _ {h : Held} {a : Areas} {s : Sent} {later : List Sent} (t : Standing h a
       record {
         kind = refl;
         listed = λ u.
-            list-said a (content s) [] (t .is-open)
-            (subst (λ (c : List ℕ). (fitted : ℕ) → Right (heldIn (lengthsOf a)) fitted listing c) (take-all 6 (content s) (omega (arith, six)))
+            list-said a (capitals (content s)) [] (t .is-open)
+            (subst (λ (c : List ℕ). (fitted release : ℕ) → Right (heldIn (lengthsOf a)) fitted release listing (capitals c)) (take-all 6 (content s) (omega (arith, six)))
             (right-here t (query-right 0x246 0x209 0 3 3 pointsTag Nothing ClearRun ListPoints _ _ h s (t .ordered) refl)))
-            (omega (arith, six))
-            (rw (all-there 0x246 Nothing ClearRun _ t refl u) (listed-zero 1011 (countOf clearing s) (startOf clearing s) _));
+            (omega (arith, six, length-capitals (content s)))
+            (rw (capital.same-start listing (content s), capital.same-count listing (content s), all-there 0x246 Nothing ClearRun _ t refl u) (listed-zero 1011 (countOf clearing s) (startOf clearing s) _));
         each = λ i below u.
             says-one 0x246 Nothing ClearRun _ t refl i below u [] sound
             (rw (zero-part i (countOf clearing s) below) (listed-zero 1011 1 (startOf clearing s + i) _));

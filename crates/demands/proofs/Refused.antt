@@ -1,7 +1,7 @@
 -- Demand 1, from the table and the outcome.
 use Prim.Native.Nat.{ℕ, _≤_, _<_}
 use mathlib.Core.Path.{_≡_, refl, sym, ap, _∙_, subst}
-use mathlib.Core.Logic.{_⊎_, inl, inr}
+use mathlib.Core.Logic.{⊎-elim, _⊎_, inl, inr}
 use mathlib.Core.Bool.{true, false}
 use mathlib.Core.List.{List, [], _∷_}
 use native.Mathlib.Omega.{arith}
@@ -67,26 +67,26 @@ number-given : (P : ℕ → Type 0) (rs : List Row) → P 0 → EachNumber P rs 
 number-given P [] z h = z
 number-given P (r ∷ rs) z h = either P (r .holds) (λ _. h .0) (λ _. number-given P rs z (h .1))
 
--- the numbers of a frame: to 10 without a reply, and from 101 on
-pub silent-low : (c : Call) → silentOf c ≤ 10
+-- the numbers of a frame: to 13 without a reply, and from 101 on
+pub silent-low : (c : Call) → silentOf c ≤ 13
 unfolding silentOf silentRows areaRows frameRows
 silent-low c =
-    number-given (λ (k : ℕ). k ≤ 10) (silent c) (omega arith)
-    (omega arith, (omega arith, (omega arith, (omega arith, (omega arith, (omega arith, (omega arith, (omega arith, (omega arith, tt)))))))))
+    number-given (λ (k : ℕ). k ≤ 13) (silent c) (omega arith)
+    (omega arith, (omega arith, (omega arith, (omega arith, (omega arith, (omega arith, (omega arith, (omega arith, (omega arith, (omega arith, tt))))))))))
 
-high : (held : Held) (fitted : ℕ) (n : Named) (content : List ℕ) → (firstOf (askedRows held fitted n content) ≡ 0 → ⊥)
-    → 101 ≤ firstOf (askedRows held fitted n content)
+high : (held : Held) (fitted release : ℕ) (n : Named) (content : List ℕ) → (firstOf (askedRows held fitted release n content) ≡ 0 → ⊥)
+    → 101 ≤ firstOf (askedRows held fitted release n content)
 unfolding askedRows
-high held fitted Unknown content k = omega arith
-high held fitted (Known m) content k =
-    number-given (λ (k : ℕ). (k ≡ 0 → ⊥) → 101 ≤ k) (askedRows held fitted (Known m) content) (λ n. absurd (n refl))
+high held fitted release Unknown content k = omega arith
+high held fitted release (Known m) content k =
+    number-given (λ (k : ℕ). (k ≡ 0 → ⊥) → 101 ≤ k) (askedRows held fitted release (Known m) content) (λ n. absurd (n refl))
     (λ _. omega arith, (λ _. omega arith, (λ _. omega arith, (λ _. omega arith, (λ _. omega arith, (λ _. omega arith, (λ _. omega arith, tt)))))))
     k
 
 asked-high : (c : Call) → (numberGiven (asked c) ≡ 0 → ⊥) → 101 ≤ numberGiven (asked c)
 asked-high c n =
     rw (asked-number c)
-    (high (held c) (c .sent .settings .fitted) (messageOf (c .sent .frame)) (contentIn (c .sent .frame)) (λ e. n (asked-number c ∙ e)))
+    (high (held c) (c .sent .settings .fitted) (c .sent .settings .release) (messageOf (c .sent .settings .release) (c .sent .frame)) (contentIn (c .sent .frame)) (λ e. n (asked-number c ∙ e)))
 
 -- each row's number is one of the list
 abbrev Listed : List ℕ → ℕ → Type 0
@@ -94,13 +94,13 @@ Listed ns n = among n ns ≡ true
 
 silent-listed : (c : Call) → Listed frameNumbers (silentOf c)
 unfolding silentOf silentRows areaRows frameRows
-silent-listed c = number-given (Listed frameNumbers) (silent c) refl (refl, (refl, (refl, (refl, (refl, (refl, (refl, (refl, (refl, tt)))))))))
+silent-listed c = number-given (Listed frameNumbers) (silent c) refl (refl, (refl, (refl, (refl, (refl, (refl, (refl, (refl, (refl, (refl, tt))))))))))
 
-asked-listed : (held : Held) (fitted : ℕ) (n : Named) (content : List ℕ) → Listed frameNumbers (firstOf (askedRows held fitted n content))
+asked-listed : (held : Held) (fitted release : ℕ) (n : Named) (content : List ℕ) → Listed frameNumbers (firstOf (askedRows held fitted release n content))
 unfolding askedRows
-asked-listed held fitted Unknown content = refl
-asked-listed held fitted (Known m) content =
-    number-given (Listed frameNumbers) (askedRows held fitted (Known m) content) refl (refl, (refl, (refl, (refl, (refl, (refl, (refl, tt)))))))
+asked-listed held fitted release Unknown content = refl
+asked-listed held fitted release (Known m) content =
+    number-given (Listed frameNumbers) (askedRows held fitted release (Known m) content) refl (refl, (refl, (refl, (refl, (refl, (refl, (refl, tt)))))))
 
 back-listed : (a : Areas) → Listed backNumbers (backRefusalOf a)
 unfolding backRefusalOf backRows areaRows
@@ -112,7 +112,7 @@ no-other-number =
       frame = λ c.
           answer-either c (λ (o : Outcome). Listed frameNumbers (o .number))
           (λ _.
-          rw (asked-number c) (asked-listed (held c) (c .sent .settings .fitted) (messageOf (c .sent .frame)) (contentIn (c .sent .frame))))
+          rw (asked-number c) (asked-listed (held c) (c .sent .settings .fitted) (c .sent .settings .release) (messageOf (c .sent .settings .release) (c .sent .frame)) (contentIn (c .sent .frame))))
           (λ _. silent-listed c);
       back = λ a. rw (back-number a) (back-listed a);
     }
@@ -135,17 +135,18 @@ text-ten c =
 ten-long : (c : Call) → 101 ≤ answerOf c .number → length (answerOf c .text) ≡ 10
 ten-long c h = ap length (text-ten c h) ∙ length-reply _ _ _
 
--- 9 is no frame's
-not-nine : (c : Call) → 9 ≤ silentOf c → silentOf c ≡ 10
+-- 9 is no frame's, nor 11 and 12
+not-nine : (c : Call) → 9 ≤ silentOf c → (silentOf c ≡ 10) ⊎ (silentOf c ≡ 13)
 unfolding silentOf silentRows areaRows frameRows
 not-nine c =
-    number-given (λ (k : ℕ). 9 ≤ k → k ≡ 10) (silent c) (λ h. absurd (omega arith))
-    (λ h. absurd (omega arith), (λ h. absurd (omega arith), (λ h. absurd (omega arith), (λ _. refl, (λ h. absurd (omega arith), (λ h. absurd (omega arith), (λ h. absurd (omega arith), (λ h. absurd (omega arith), (λ h. absurd (omega arith), tt)))))))))
+    number-given (λ (k : ℕ). 9 ≤ k → (k ≡ 10) ⊎ (k ≡ 13)) (silent c) (λ h. absurd (omega arith))
+    (λ h. absurd (omega arith), (λ h. absurd (omega arith), (λ h. absurd (omega arith), (λ _. inl refl, (λ h. absurd (omega arith), (λ h. absurd (omega arith), (λ _. inr refl, (λ h. absurd (omega arith), (λ h. absurd (omega arith), (λ h. absurd (omega arith), tt))))))))))
 
-no-other : (c : Call) → 9 ≤ answerOf c .number → (answerOf c .number ≡ 10) ⊎ (101 ≤ answerOf c .number)
+no-other : (c : Call) → 9 ≤ answerOf c .number → (answerOf c .number ≡ 10) ⊎ (answerOf c .number ≡ 13) ⊎ (101 ≤ answerOf c .number)
 no-other c =
-    answer-either c (λ (o : Outcome). 9 ≤ o .number → (o .number ≡ 10) ⊎ (101 ≤ o .number)) (λ _ h. inr (asked-high c (λ e. omega (arith, h, e))))
-    (λ _ h. inl (not-nine c h))
+    answer-either c (λ (o : Outcome). 9 ≤ o .number → (o .number ≡ 10) ⊎ (o .number ≡ 13) ⊎ (101 ≤ o .number))
+    (λ _ h. inr (inr (asked-high c (λ e. omega (arith, h, e)))))
+    (λ _ h. ⊎-elim inl (λ e. inr (inl e)) (not-nine c h))
 
 back-text : (a : Areas) → backOf a .text ≡ []
 unfolding backOf

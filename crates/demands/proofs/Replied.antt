@@ -13,7 +13,7 @@ use Rattle.table.specs.declared.Message.{Message}
 use Rattle.table.specs.declared.Named.the-variants.{Known}
 use Rattle.messages.specs.declared.Asked.{Asked}
 use Rattle.messages.specs.declared.Asked.the-variants.{Refused, Order}
-use Rattle.table.specs.Table.{messageOf}
+use Rattle.demands.specs.History.{messageBy}
 use Rattle.messages.specs.Asked.{askedOf, numberGiven}
 use Rattle.messages.proofs.Judged.{refused-some, told}
 use Rattle.calls.specs.Calls.{Call, Outcome}
@@ -32,7 +32,7 @@ asked-framed c (Order m start count) n = record { rest = _; is = refl; law = rep
 pub every-reply : EveryReply
 every-reply c =
     answer-either c (λ (o : Outcome). (o .text ≡ [] → ⊥) → Framed (o .number) (c .sent .settings .station) (o .text))
-    (λ _ _. asked-framed c (asked c) (refused-some (held c) (c .sent .settings .fitted) (c .sent .frame)))
+    (λ _ _. asked-framed c (asked c) (refused-some (held c) (c .sent .settings .fitted) (c .sent .settings .release) (c .sent .frame)))
     (λ _ n. absurd (n refl))
 
 -- what is accepted is answered by a normal reply
@@ -52,10 +52,10 @@ normal-reply =
       starts = λ c n. let f = normal-framed c n in ap (λ (t : List ℕ). getD t 0 0) (f .is) ∙ f .law .starts;
     }
 
-test-row : (c : Call) (m : Message) (start count : ℕ) → messageOf (c .sent .frame) ≡ Known testing → asked c ≡ Order m start count → testing ≡ m
+test-row : (c : Call) (m : Message) (start count : ℕ) → messageBy (c .sent) ≡ Known testing → asked c ≡ Order m start count → testing ≡ m
 unfolding askedOf
 test-row c m start count e q =
-    let t = told (held c) (c .sent .settings .fitted) (messageOf (c .sent .frame)) (contentIn (c .sent .frame)) m start count q .message in
+    let t = told (held c) (c .sent .settings .fitted) (c .sent .settings .release) (messageBy (c .sent)) (contentIn (c .sent .frame)) m start count q .message in
     cc
 
 said-back : (c : Call) (m : Message) (start count : ℕ) → testing ≡ m
@@ -67,5 +67,5 @@ pub test-call-back : TestCallBack
 test-call-back c e n =
     let a = accepted c n in
     ap (λ (o : Outcome). o .text) (heard-answer c (a .heard)) ∙ ap (textOf c) (a .order)
-    ∙ said-back c (a .message) (a .start) (a .count) (test-row c (a .message) (a .start) (a .count) (message-of (c .sent .frame) (text "200") e ∙ named .5) (a .order))
+    ∙ said-back c (a .message) (a .start) (a .count) (test-row c (a .message) (a .start) (a .count) (message-of (c .sent .settings .release) (c .sent .frame) (text "200") e ∙ named .5 (c .sent .settings .release)) (a .order))
     ∙ rw e

@@ -16,13 +16,12 @@ use Rattle.journal.specs.Laws.{AllGood}
 use Rattle.journal.specs.Laws as journal
 use Rattle.journal.proofs.Again.{Again, again}
 use Rattle.messages.specs.Rows.{firstOf}
-use Rattle.table.specs.Table.{messageOf}
 use Rattle.messages.specs.Asked.{askedRows, askedOf}
 use Rattle.calls.specs.Calls.{Areas, Sent, lengthsOf, areaIn, entriesOf}
 use Rattle.refusals.specs.Refusals.{pointsFit, variablesFit, leastJournal, journalFits, axesFit, refusalOf, backRefusalOf}
-use Rattle.refusals.proofs.Rows.{AreasPass, past-areas, back-rows, frameNumber, refusal-is}
+use Rattle.refusals.proofs.Rows.{AreasPass, past-areas, back-rows, ownNumber, refusal-is}
 use Rattle.demands.specs.Refused.{asksWrite}
-use Rattle.demands.specs.History.{ours, callOn, acceptedWrite, entries}
+use Rattle.demands.specs.History.{messageBy, ours, callOn, acceptedWrite, entries}
 use Rattle.demands.proofs.Refused.{one-number}
 use Rattle.demands.proofs.Journals.{area-long}
 
@@ -43,11 +42,11 @@ pub record Shape (held : Held) (size : ℕ) (a : Areas) (es : List Entry) : Type
 abbrev pub numberOn : Held → Sent → ℕ
 numberOn held s =
     cond (ltb (length (s .reply)) 1024) 1
-    (cond (not (axesFit (s .axes) (s .settings .fitted))) 5
-    (frameNumber (s .settings .station) (s .frame) (firstOf (askedRows held (s .settings .fitted) (messageOf (s .frame)) (contentIn (s .frame))))))
+    (ownNumber (s .axes) (s .settings) (s .frame)
+    (firstOf (askedRows held (s .settings .fitted) (s .settings .release) (messageBy s) (contentIn (s .frame)))))
 
 abbrev pub takes : Held → Sent → Bool
-takes held s = eqb (numberOn held s) 0 && asksWrite (askedOf held (s .settings .fitted) (s .frame))
+takes held s = eqb (numberOn held s) 0 && asksWrite (askedOf held (s .settings .fitted) (s .settings .release) (s .frame))
 
 module _ {held : Held} {size : ℕ} (b : Bounds held size) where
   module _ {a : Areas} {es : List Entry} (h : Shape held size a es) where
@@ -125,4 +124,4 @@ module _ {held : Held} {size : ℕ} (b : Bounds held size) where
 
     pub takes-is : (s : Sent) → acceptedWrite ours a s ≡ takes held s
     takes-is s =
-        ap₂ (λ (k : ℕ) (x : Held). eqb k 0 && asksWrite (askedOf x (s .settings .fitted) (s .frame))) (one-number .frame (callOn a s) ∙ number-is s) held-is
+        ap₂ (λ (k : ℕ) (x : Held). eqb k 0 && asksWrite (askedOf x (s .settings .fitted) (s .settings .release) (s .frame))) (one-number .frame (callOn a s) ∙ number-is s) held-is

@@ -11,7 +11,7 @@ use lib.IntN.{pos}
 use lib.ListN.{length, take, drop, getD, replicate, length-append, length-drop, take-append-drop, replicate-append-replicate, List·getD-append}
 use lib.Seq.{length-take-le, take-take, take-at, take-append-le, drop-append-le, drop-at, drop-drop}
 use borrow.Author.Tests.{leb-true, le-leb, not-true}
-use Rattle.digits.specs.Digits.{digitsOf, allDigits, numberOf}
+use Rattle.digits.specs.Digits.{capitals, digitsOf, allDigits, numberOf}
 use Rattle.digits.proofs.Inverse.{and-left, and-right}
 use Rattle.digits.specs.Laid.{laid}
 use Rattle.kinds.specs.declared.Held.{Held}
@@ -23,7 +23,9 @@ use Rattle.points.specs.Point.{positionOf, positionsOf, pointOf, lengthOf, fill
 use Rattle.points.proofs.Measured.{least}
 use Rattle.points.proofs.Ones.{at-most}
 use Rattle.digits.proofs.Inverse.{inverse}
+use Rattle.digits.proofs.Capitals.{length-capitals, take-capitals}
 use Rattle.points.proofs.Parts.{all-take, all-drop}
+use Rattle.points.proofs.Capitals as points
 use Rattle.points.proofs.Slotted.{length-pointSlot}
 use Rattle.points.proofs.Promised.{slot, every-digit}
 use Rattle.table.specs.Table.{patternFits, patternsFit}
@@ -118,13 +120,15 @@ module _ (digits : List ℕ) (whole-one : lengthOf digits ≤ length digits) whe
         same-positions,
       )
 
-  -- the slot of that point, whatever stands behind it, says its very digits back
-  pub digits-back : (r : List ℕ) → allDigits digits ≡ true → pointDigits (pointIn (slotOf (pointOf digits) ++ r)) ≡ take (lengthOf digits) digits
+  -- the slot of that point, whatever stands behind it, says its very digits back, in capitals
+  pub digits-back : (r : List ℕ) → allDigits digits ≡ true
+      → pointDigits (pointIn (slotOf (pointOf digits) ++ r)) ≡ take (lengthOf (capitals digits)) (capitals digits)
   unfolding first
   digits-back r a =
       let e = every-digit first (first-long ∙ sym same-length) (all-take (lengthOf digits) digits a) in
       let f = rw same-point at (e .0) in
       ap pointDigits (slot-front (slotOf (pointOf digits)) r (length-pointSlot digits) ∙ slot (pointOf digits) f .read-back ∙ sym same-point) ∙ e .1
+      ∙ sym (ap (λ (n : ℕ). take n (capitals digits)) (points.same-length digits) ∙ take-capitals (lengthOf digits) digits)
 
 -- a slot starts with its pattern
 slot-pattern : (digits r : List ℕ) → getD (slotOf (pointOf digits) ++ r) 0 0 ≡ numberOf (take 2 digits)
@@ -169,15 +173,15 @@ unfolding listed
 listed-one room count number slots s rest p e d =
     rw p (ap₂ (λ (x y : List ℕ). cond (leb (length x) room) (x ∷ listed (room - length x) count (suc number) y) []) e d)
 
--- the slots of points that were sent are listed as they were sent, as many as fit
+-- the slots of points that were sent are listed as they were sent, in capitals, as many as fit
 pub listed-sent : (fitted count room number : ℕ) (digits rest : List ℕ) → fillsOf count digits ≡ true → allDigits digits ≡ true → patternsFit fitted count digits ≡ true
-    → listed room count number (slotsOf count digits ++ rest) ≡ fitting room (sent count number digits)
+    → listed room count number (slotsOf count digits ++ rest) ≡ fitting room (sent count number (capitals digits))
 unfolding listed fitting sent slotsOf
 listed-sent fitted zero room number digits rest f a p = refl
 listed-sent fitted (suc count) room number digits rest f a p =
     let slot = slotOf (pointOf digits) in
     let digits′ = drop (lengthOf digits) digits in
-    let s = digitsOf 3 number ++ take (lengthOf digits) digits in
+    let s = digitsOf 3 number ++ take (lengthOf (capitals digits)) (capitals digits) in
     let l = slotsOf count digits′ ++ rest in
     let split : (slot ++ slotsOf count digits′) ++ rest ≡ slot ++ l = append-assoc slot (slotsOf count digits′) rest in
     ap (listed room (suc count) number) split
@@ -185,7 +189,8 @@ listed-sent fitted (suc count) room number digits rest f a p =
     (ap (λ (x : List ℕ). digitsOf 3 number ++ x) (digits-back digits (first-fills fitted count digits f) l a))
     (slot-behind digits l)
     ∙ ap (λ (x : List (List ℕ)). cond (leb (length s) room) (s ∷ x) [])
-    (listed-sent fitted count (room - length s) (suc number) digits′ rest (rest-fills fitted count digits f) (all-drop (lengthOf digits) digits a) (rest-patterns fitted count digits p))
+    (listed-sent fitted count (room - length s) (suc number) digits′ rest (rest-fills fitted count digits f) (all-drop (lengthOf digits) digits a) (rest-patterns fitted count digits p)
+    ∙ ap (λ (x : List ℕ). fitting (room - length s) (sent count (suc number) x)) (sym (points.behind digits)))
 
 -- a point has at most eight axes
 most : (digits : List ℕ) → 2 ≤ length digits → lengthOf digits ≤ 78
@@ -196,15 +201,17 @@ most digits h =
 
 -- one of them, by itself
 pub listed-one-sent : (fitted i count number : ℕ) (digits rest : List ℕ) → i < count → fillsOf count digits ≡ true → allDigits digits ≡ true → patternsFit fitted count digits ≡ true
-    → listed 1011 1 (number + i) (take 40 (drop (i * 40) (slotsOf count digits)) ++ rest) ≡ getD (sent count number digits) i [] ∷ []
+    → listed 1011 1 (number + i) (take 40 (drop (i * 40) (slotsOf count digits)) ++ rest) ≡ getD (sent count number (capitals digits)) i [] ∷ []
 unfolding listed sent slotsOf
 listed-one-sent fitted i zero number digits rest l f a p = absurd (omega arith)
 listed-one-sent fitted zero (suc count) number digits rest l f a p =
     let slot = slotOf (pointOf digits) in
     let digits′ = drop (lengthOf digits) digits in
-    let s = digitsOf 3 number ++ take (lengthOf digits) digits in
+    let t = take (lengthOf (capitals digits)) (capitals digits) in
+    let s = digitsOf 3 number ++ t in
     let w = first-fills fitted count digits f in
-    let room : leb (length s) 1011 ≡ true = le-leb (length s) 1011 (rw (length-append (digitsOf 3 number) (take (lengthOf digits) digits), length-take-le (lengthOf digits) digits w) (omega (arith, inverse 3 .as-many number, most digits (omega (arith, w, least digits))))) in
+    let long : length t ≡ lengthOf digits = length-take-le (lengthOf (capitals digits)) (capitals digits) (omega (arith, w, length-capitals digits, points.same-length digits)) ∙ points.same-length digits in
+    let room : leb (length s) 1011 ≡ true = le-leb (length s) 1011 (rw (length-append (digitsOf 3 number) t, long) (omega (arith, inverse 3 .as-many number, most digits (omega (arith, w, least digits))))) in
     ap (λ (x : List ℕ). listed 1011 1 (number + 0) (x ++ rest)) (take-at slot (slotsOf count digits′) 40 (length-pointSlot digits))
     ∙ ap (λ (x : ℕ). listed 1011 1 x (slot ++ rest)) (add-zero number)
     ∙ listed-one 1011 0 number (slot ++ rest) s rest (ap (λ (x : ℕ). eqb x 0) (slot-pattern digits rest) ∙ first-pattern fitted count digits p)
@@ -220,6 +227,7 @@ listed-one-sent fitted (suc i) (suc count) number digits rest l f a p =
     ap (λ (x : ℕ). drop x (slot ++ slotsOf count digits′)) e ∙ sym (drop-drop (i * 40) 40 (slot ++ slotsOf count digits′)) ∙ ap (drop (i * 40)) (slot-behind digits (slotsOf count digits′)) in
     ap₂ (λ (x : ℕ) (y : List ℕ). listed 1011 1 x (take 40 y ++ rest)) n d
     ∙ listed-one-sent fitted i count (suc number) digits′ rest (omega arith) (rest-fills fitted count digits f) (all-drop (lengthOf digits) digits a) (rest-patterns fitted count digits p)
+    ∙ ap (λ (x : List ℕ). getD (sent count (suc number) x) i [] ∷ []) (sym (points.behind digits))
 
 -- each point that was sent is effective
 pub effective-sent : (fitted count : ℕ) (digits : List ℕ) → patternsFit fitted count digits ≡ true → effectiveIn count (slotsOf count digits) ≡ count

@@ -6,6 +6,8 @@ use mathlib.Core.List.{List}
 use native.Mathlib.Omega.{arith}
 use lib.ListN.{length}
 use Rattle.digits.specs.Text.{text}
+use Rattle.digits.specs.Digits.{admitted}
+use Rattle.digits.proofs.Inverse.{rules}
 use Rattle.digits.proofs.Bools.{was-not}
 use Rattle.kinds.specs.declared.Held.{Held}
 use Rattle.kinds.specs.declared.Lengths.{Lengths}
@@ -18,14 +20,15 @@ use Rattle.table.specs.declared.Action.{Action}
 use Rattle.table.specs.declared.Action.the-variants.{WritePoints, ClearRun}
 use Rattle.table.specs.declared.Message.{Message}
 use Rattle.table.specs.declared.Named.the-variants.{Known}
-use Rattle.table.specs.Table.{row, messageOf}
+use Rattle.table.specs.Table.{row, anyBytes}
+use Rattle.messages.proofs.Judged.{as-admitted}
 use Rattle.calls.specs.Calls.{Areas, Sent, Call, lengthsOf}
 use Rattle.orders.specs.Orders.{rest, writes, newBytes}
 use Rattle.link.specs.Answer.{held, answerOf}
 use Rattle.refusals.proofs.Rows.{call-passed}
 use Rattle.link.proofs.Carrying.{fine}
-use Rattle.demands.specs.History.{ours}
-use Rattle.demands.specs.Reading.{startOf, countOf, RunRead, IntegersStored, FlagRead, FlagStored, PointsRead, PointsGone, Reads, effectiveOf}
+use Rattle.demands.specs.History.{messageBy, ours}
+use Rattle.demands.specs.Reading.{content, startOf, countOf, RunRead, IntegersStored, FlagRead, FlagStored, PointsRead, PointsGone, Reads, effectiveOf}
 use Rattle.demands.specs.Survive.{Accepted, HeardAgain, effectiveNamed, Once, EveryDigitSurvives}
 use Rattle.demands.proofs.Refused.{one-number}
 use Rattle.demands.proofs.Commands.{writing, clearing, changing, changingIntegers, setting, row-of, rows, station-byte}
@@ -42,31 +45,33 @@ use Rattle.demands.proofs.Histories.{first, every}
 use Rattle.demands.proofs.Lasting.{standing-past}
 
 -- what is read of a write that stands, whichever of the five it is
-reads : {h : Held} {a : Areas} {m : Message} {s : Sent} {later : List Sent} → h .points ≤ 1500 → messageOf (s .frame) ≡ Known m → Standing h a m s later
+reads : {h : Held} {a : Areas} {m : Message} {s : Sent} {later : List Sent} → h .points ≤ 1500 → messageBy s ≡ Known m → Standing h a m s later
     → Reads ours a m s later
 reads {h} {a} {m} {s} {later} sound known t =
     record {
       codes = λ i.
-          let e = row-of (s .frame) 0x24E changing known i (rows .2) in
+          let e = row-of s 0x24E changing known i (rows .2) in
           subst (λ (x : Message). RunRead ours a (text "210") columnsTag x s later) (sym e) (run-read of-columns 0x24E false (there (here e)));
       integers = λ i.
-          let e = row-of (s .frame) 0x24C changingIntegers known i (rows .3) in
+          let e = row-of s 0x24C changingIntegers known i (rows .3) in
           subst (λ (x : Message). RunRead ours a (text "20E") integersTag x s later) (sym e) (run-read of-integers 0x24C true (there (here e)));
       stored = λ i.
-          let e = row-of (s .frame) 0x24C changingIntegers known i (rows .3) in
+          let e = row-of s 0x24C changingIntegers known i (rows .3) in
           subst (λ (x : Message). IntegersStored a x s later) (sym e) (integers-stored (there (here e)));
       flag = λ i.
-          let e = row-of (s .frame) 0x24B setting known i (rows .4) in
+          let e = row-of s 0x24B setting known i (rows .4) in
           subst (λ (x : Message). FlagRead ours a x s later) (sym e) (flag-read (there (here e)));
       flag-stored = λ i.
-          let e = row-of (s .frame) 0x24B setting known i (rows .4) in
+          let e = row-of s 0x24B setting known i (rows .4) in
           subst (λ (x : Message). FlagStored a x s later) (sym e) (flag-stored (there (here e)));
       points = λ i.
-          let e = row-of (s .frame) 0x244 writing known i (rows .0) in
+          let e = row-of s 0x244 writing known i (rows .0) in
           subst (λ (x : Message). PointsRead ours a x s later) (sym e) (points-read (here e) sound);
       cleared = λ i.
-          let e = row-of (s .frame) 0x246 clearing known i (rows .1) in
+          let e = row-of s 0x246 clearing known i (rows .1) in
           subst (λ (x : Message). PointsGone ours a x s later) (sym e) (points-gone (here e) sound);
+      as-sent = λ one any.
+          rules (content s) .capitals-only (subst (λ (r : ℕ). admitted r (content s) ≡ true) one (as-admitted (s .settings .release) m (content s) any (t .ordered .right .digits)));
     }
   where
     here : {r : Message} → m ≡ r → Standing h a r s later
@@ -106,11 +111,11 @@ heard-again id c a =
     let t = taken c a in
     let p = call-passed c (t .heard) in
     let f = fine c (t .heard) in
-    record { reply-long = f .reply-long; axes-fit = p .axes-fit; station-byte = station-byte (c .sent .settings .station) (c .sent .frame) (f .frame-long) (p .station) }
+    record { reply-long = f .reply-long; axes-fit = p .axes-fit; release-fits = p .release-fits; station-byte = station-byte (c .sent .settings .release) (c .sent .settings .station) (c .sent .frame) (f .frame-long) (p .station) }
 
 written-once : (c : Call) (a : Accepted 0x244 c) → Once ours (a .message) c (countOf (a .message) (c .sent))
 written-once c a =
-    let e = row-of (c .sent .frame) 0x244 writing (a .known) (a .named) (rows .0) in
+    let e = row-of (c .sent) 0x244 writing (a .known) (a .named) (rows .0) in
     let t = subst (λ (m : Message). Took m c) e (taken c a) in
     subst (λ (m : Message). Once ours m c (countOf m (c .sent))) (sym e)
     (counted-once 0x244 Points WritePoints true c t refl (countOf writing (c .sent))
@@ -118,7 +123,7 @@ written-once c a =
 
 cleared-once : (c : Call) (a : Accepted 0x246 c) → Once ours (a .message) c 0
 cleared-once c a =
-    let e = row-of (c .sent .frame) 0x246 clearing (a .known) (a .named) (rows .1) in
+    let e = row-of (c .sent) 0x246 clearing (a .known) (a .named) (rows .1) in
     let t = subst (λ (m : Message). Took m c) e (taken c a) in
     subst (λ (m : Message). Once ours m c 0) (sym e) (counted-once 0x246 Nothing ClearRun _ c t refl 0 (effective-zero (countOf clearing (c .sent))))
 

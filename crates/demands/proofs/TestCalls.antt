@@ -8,10 +8,9 @@ use native.Mathlib.Omega.{arith}
 use lib.ListN.{length, take, drop, getD, length-append, length-drop}
 use lib.Seq.{length-take-le, take-at, drop-at, drop-append-le}
 use borrow.Author.Tests.{le-ltb, le-leb, eq-eqb, eqb-true}
-use Rattle.digits.specs.Digits.{byteOf, isDigit}
+use Rattle.digits.specs.Digits.{byteOf}
 use Rattle.digits.specs.Text.{text}
-use Rattle.digits.proofs.Inverse.{inverse, and-left}
-use Rattle.digits.proofs.OneDigit.{least}
+use Rattle.digits.proofs.OneDigit.{byte-least}
 use Rattle.frames.specs.Frame.{CR, LF, normal, replyOf, messageIn, contentIn, scOf, shaped}
 use Rattle.frames.proofs.TestID.{test-id}
 use Rattle.finder.specs.declared.Found.{Found}
@@ -26,7 +25,7 @@ use Rattle.messages.specs.Asked.{askedOf, judged, numberGiven}
 use Rattle.messages.proofs.Judged.{Right, ordered}
 use Rattle.calls.specs.Calls.{Areas, Sent, Call, Outcome, lengthsOf}
 use Rattle.refusals.specs.Refusals.{axesFit, silentOf}
-use Rattle.refusals.proofs.Rows.{area-rows, areas-pass, past-areas, frameNumber, silent-is, call-passed}
+use Rattle.refusals.proofs.Rows.{area-rows, areas-pass, past-areas, ownNumber, silent-is, call-passed}
 use Rattle.refusals.proofs.Tested.{shape}
 use Rattle.link.specs.Answer.{held, asked, answerOf}
 use Rattle.link.proofs.Answering.{silent-answer}
@@ -40,8 +39,8 @@ use Rattle.demands.proofs.Replied.{test-call-back}
 use Rattle.demands.proofs.Asking.{Open, TakenAs, taken-as}
 
 -- ten bytes pass every test of a 200H
-right-ten : (h : Held) (fitted : ℕ) (content : List ℕ) → length content ≡ 10 → Right h fitted testing content
-right-ten h fitted content l =
+right-ten : (h : Held) (fitted release : ℕ) (content : List ℕ) → length content ≡ 10 → Right h fitted release testing content
+right-ten h fitted release content l =
     record {
       digits = refl;
       long = rw (le-leb 0 (length content) (omega arith), eq-eqb (length content) 10 l);
@@ -70,8 +69,7 @@ module _ (station : ℕ) (ten sc : List ℕ) (l : length ten ≡ 10) (two : leng
   module _ (behind : List ℕ) where
     headed : Head (frame ++ behind)
     headed =
-        let a = byteOf (station / 16 % 16) in
-        let d = least a (and-left (isDigit a) _ (inverse 2 .are-digits station)) in
+        let d = byte-least (station / 16 % 16) in
         record { bang = refl; station = λ e. omega (arith, d, ap (λ (l : List ℕ). getD l 0 0) e); id = refl }
 
     last-two : lastTwo (frame ++ behind) ≡ CR ∷ LF ∷ []
@@ -96,7 +94,7 @@ module _ (a : Areas) (o : Open a) (h : Sent) (host : Host h) (checked : Bool) (t
   fits = eq-eqb (length asks) 13 (omega arith)
 
   takes : TakenAs testing a h checked asks
-  takes = taken-as a asks testing o (omega arith) (omega arith) fits (named .5) (λ fitted. right-ten (heldIn (lengthsOf a)) fitted ten l) h host checked
+  takes = taken-as a asks testing o (omega arith) (omega arith) fits (named .5) (λ fitted release. right-ten (heldIn (lengthsOf a)) fitted release ten l) h host checked
 
   -- the ten bytes come back
   ten-back : answerOf call .text ≡ replyOf normal (h .settings .station) asks
@@ -161,8 +159,9 @@ other-length a e h host f m n =
     silent-is c
     ∙ rw (
       le-ltb (length (h .reply)) 1024 (host .reply-long),
-      past-areas (lengthsOf a) (a .journal) (a .kept) (opened a e) (cond (not (axesFit (h .axes) (h .settings .fitted))) 5 (frameNumber (h .settings .station) f 0)),
+      past-areas (lengthsOf a) (a .journal) (a .kept) (opened a e) (ownNumber (h .axes) (h .settings) f 0),
       host .axes-fit,
+      host .release-fits,
       no-shape,
     ) in
     silent-answer c 6 (sym six) (λ z. omega (arith, z))
@@ -182,9 +181,10 @@ module _ (c : Call) (e : messageIn (c .sent .frame) ≡ text "200") where
       let f = c .sent .frame in
       let n = twenty f e (call-passed c z .shape) in
       let t : length (contentIn f) ≡ 10 = length-take-le (length f - 10) (drop 6 f) (simp length-drop (omega arith)) ∙ omega arith in
-      let m = message-of f (text "200") e ∙ named .5 in
-      ap (λ (x : Named). numberGiven (judged (held c) (c .sent .settings .fitted) x (contentIn f))) m
-      ∙ ap numberGiven (ordered (held c) (c .sent .settings .fitted) testing (contentIn f) (right-ten (held c) (c .sent .settings .fitted) (contentIn f) t))
+      let s = c .sent .settings in
+      let m = message-of (s .release) f (text "200") e ∙ named .5 (s .release) in
+      ap (λ (x : Named). numberGiven (judged (held c) (s .fitted) (s .release) x (contentIn f))) m
+      ∙ ap numberGiven (ordered (held c) (s .fitted) (s .release) testing (contentIn f) (right-ten (held c) (s .fitted) (s .release) (contentIn f) t))
 
 no-error-reply : NoErrorReply ours
 no-error-reply c e =

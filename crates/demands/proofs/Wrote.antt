@@ -39,14 +39,14 @@ pub record Writes (held : Held) (s : Sent) : Type 0 where
   pub message : Message
   pub start : ℕ
   pub count : ℕ
-  pub order : askedOf held (s .settings .fitted) (s .frame) ≡ Order message start count
+  pub order : askedOf held (s .settings .fitted) (s .settings .release) (s .frame) ≡ Order message start count
   pub is-write : writes (message .does) ≡ true
   pub able : Writable held (contentIn (s .frame)) message start count
 
-pub ordered : (held : Held) (s : Sent) → asksWrite (askedOf held (s .settings .fitted) (s .frame)) ≡ true → Writes held s
-ordered held s = go (askedOf held (s .settings .fitted) (s .frame)) refl
+pub ordered : (held : Held) (s : Sent) → asksWrite (askedOf held (s .settings .fitted) (s .settings .release) (s .frame)) ≡ true → Writes held s
+ordered held s = go (askedOf held (s .settings .fitted) (s .settings .release) (s .frame)) refl
   where
-    go : (a : Asked) → askedOf held (s .settings .fitted) (s .frame) ≡ a → asksWrite a ≡ true → Writes held s
+    go : (a : Asked) → askedOf held (s .settings .fitted) (s .settings .release) (s .frame) ≡ a → asksWrite a ≡ true → Writes held s
     go (Refused number) q e = absurd (let z : _≡_ {A = ℕ} 0 1 = ap (λ (b : Bool). cond b 1 0) e in omega arith)
     go (Order m start count) q e =
         record {
@@ -55,7 +55,7 @@ ordered held s = go (askedOf held (s .settings .fitted) (s .frame)) refl
           count = count;
           order = q;
           is-write = e;
-          able = writable held (contentIn (s .frame)) m start count (judged-so held (s .settings .fitted) (s .frame) m start count q) e;
+          able = writable held (contentIn (s .frame)) m start count (judged-so held (s .settings .fitted) (s .settings .release) (s .frame) m start count q) e;
         }
 
 module _ {held : Held} {s : Sent} (w : Writes held s) where
@@ -82,7 +82,7 @@ module _ {held : Held} {s : Sent} (w : Writes held s) where
       let c = callOn a s in
       let is = held-is b h in
       ap (λ (o : Outcome). o .areas) (heard-answer c (accepted c e .heard))
-      ∙ ap (areasAfter c) (ap (λ (x : Held). askedOf x (s .settings .fitted) (s .frame)) is ∙ w .order)
+      ∙ ap (areasAfter c) (ap (λ (x : Held). askedOf x (s .settings .fitted) (s .settings .release) (s .frame)) is ∙ w .order)
       ∙ ap (λ (x : Held). storedBy x (w .message) (w .start) (w .count) (restIn (w .message) (contentIn (s .frame))) a) is
       ∙ rw (w .is-write)
 

@@ -53,6 +53,10 @@ pub record Past : Type 0 where
 abbrev pub entries : Areas → List Entry
 entries a = entriesOf (heldIn (lengthsOf a)) a
 
+-- the message that a frame names, under the release that it is sent with (02, l)
+abbrev pub messageBy : Sent → Named
+messageBy s = messageOf (s .settings .release) (s .frame)
+
 -- the run that a message with its content says, whatever a board makes of it, in the shape of an entry: its kind's tag, its start number and the
 -- bytes to store ("Each message"; 02, a: the slots of its points, zero bytes, a byte for each pair of digits, a flag's byte); an unknown one says none
 abbrev pub runSaid : Held → Named → List ℕ → Entry
@@ -67,14 +71,14 @@ entrySaid held (Known m) content a = oldEntry held (m .tag) (startIn m content) 
 
 -- an account of writes that no board gives: the runs that they say, whole, put into areas one after the other, and the entries that they make
 abbrev pub stored : Held → Areas → Sent → Areas
-stored held a s = putIn held (runSaid held (messageOf (s .frame)) (contentIn (s .frame))) a
+stored held a s = putIn held (runSaid held (messageBy s) (contentIn (s .frame))) a
 
 abbrev pub account : Held → Areas → List Sent → Areas
 account held a [] = a
 account held a (s ∷ ss) = account held (stored held a s) ss
 
 abbrev pub entryBy : Held → Areas → Sent → Entry
-entryBy held a s = entrySaid held (messageOf (s .frame)) (contentIn (s .frame)) a
+entryBy held a s = entrySaid held (messageBy s) (contentIn (s .frame)) a
 
 abbrev pub entered : Held → Areas → List Sent → List Entry
 entered held a [] = []

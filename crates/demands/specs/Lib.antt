@@ -5,4 +5,5 @@ pub mod History
 pub mod Reading
 pub mod Survive
 pub mod TestCalls
+pub mod Releases
 pub mod Demands

@@ -1,11 +1,11 @@
 -- Demand 2: how a board is asked, and what its answers say of the numbers that a write named.
 use Prim.Native.Nat.{ℕ, zero, suc, _+_, _-_, _*_, _<_, _≤_}
 use mathlib.Core.Path.{_≡_}
-use mathlib.Core.Bool.{Bool, true, cond, not, _&&_, _||_}
+use mathlib.Core.Bool.{Bool, true, false, cond, not, _&&_, _||_}
 use mathlib.Core.List.{List, [], _∷_, _++_}
 use lib.Dec.{leb, eqb}
 use lib.ListN.{length, take, drop, getD}
-use Rattle.digits.specs.Digits.{numberOf, digitsOf}
+use Rattle.digits.specs.Digits.{capitals, numberOf, digitsOf}
 use Rattle.digits.specs.Text.{text}
 use Rattle.frames.specs.Frame.{command, normal, CR, LF, contentIn, scOf, replyOf}
 use Rattle.areas.specs.Bytes.{fourAt}
@@ -17,11 +17,11 @@ use Rattle.points.specs.Point.{lengthOf, effectiveIn}
 use Rattle.table.specs.declared.Message.{Message}
 use Rattle.table.specs.declared.Named.{Named}
 use Rattle.table.specs.declared.Named.the-variants.{Known, Unknown}
-use Rattle.table.specs.Table.{messageOf, startIn, countIn, restIn}
+use Rattle.table.specs.Table.{startIn, countIn, restIn, anyBytes}
 use Rattle.listing.specs.Listing.{listed as listedIn, joined}
 use Rattle.calls.specs.Calls.{Areas, Sent, Call, callOf, lengthsOf, areaIn}
-use Rattle.refusals.specs.Refusals.{axesFit}
-use Rattle.demands.specs.History.{Conduct}
+use Rattle.refusals.specs.Refusals.{axesFit, releaseFits}
+use Rattle.demands.specs.History.{Conduct, messageBy}
 
 -- a frame's content ("Frame"), and the start number, the count and what follows them as its message reads these ("Each message")
 abbrev pub content : Sent → List ℕ
@@ -43,10 +43,12 @@ before station said = command ∷ (digitsOf 2 station ++ said)
 abbrev pub commandOf : Bool → ℕ → List ℕ → List ℕ
 commandOf checked station said = before station said ++ (cond checked (scOf (before station said)) (text "@@") ++ (CR ∷ LF ∷ []))
 
--- a host whose commands are heard where the areas pass: its reply area is long enough (refusal 1), its axes fit (5), and two digits write its station
+-- a host whose commands are heard where the areas pass: its reply area is long enough (refusal 1), its axes fit (5), its release is 1 or 2 (13; 02, l),
+-- and two digits write its station
 pub record Host (h : Sent) : Type 0 where
   pub reply-long : 1024 ≤ length (h .reply)
   pub axes-fit : axesFit (h .axes) (h .settings .fitted) ≡ true
+  pub release-fits : releaseFits (h .settings .release) ≡ true
   pub station-byte : h .settings .station < 256
 
 -- what it asks of areas
@@ -67,7 +69,7 @@ spares tag number many (Known m) content =
 -- no later write touches them
 abbrev pub untouched : ℕ → ℕ → ℕ → List Sent → Bool
 untouched tag number many [] = true
-untouched tag number many (s ∷ later) = spares tag number many (messageOf (s .frame)) (content s) && untouched tag number many later
+untouched tag number many (s ∷ later) = spares tag number many (messageBy s) (content s) && untouched tag number many later
 
 -- a kind's query, 210H of columns or 20EH of integers: its ID, program number 00, start and count; the reply repeats these ("Each message"; 02, a)
 abbrev pub asksRun : List ℕ → ℕ → ℕ → List ℕ
@@ -81,7 +83,8 @@ digitsFrom unit first number many digits = take (2 * (many * unit)) (drop (2 * (
 abbrev pub kindIn : ℕ → Areas → Kind
 kindIn tag a = kindOf (heldIn (lengthsOf a)) tag
 
--- a query of some numbers of a kind says, of all those that a change named and no later write touched, the very digits that were sent, in their place
+-- a query of some numbers of a kind says, of all those that a change named and no later write touched, the very digits that were sent, in their place and
+-- in capitals (02, l)
 pub record RunSaid (board : Conduct) (a : Areas) (id : List ℕ) (tag : ℕ) (m : Message) (s : Sent) (later : List Sent) (start count : ℕ) : Type 0 where
   pub digits : List ℕ
   pub says : Says board a (asksRun id start count) (asksRun id start count ++ digits)
@@ -89,13 +92,13 @@ pub record RunSaid (board : Conduct) (a : Areas) (id : List ℕ) (tag : ℕ) (m 
   pub in-place :
       (number many : ℕ) → startOf m s ≤ number → number + many ≤ startOf m s + countOf m s → start ≤ number → number + many ≤ start + count
       → untouched tag number many later ≡ true
-      → digitsFrom (kindIn tag a .unit) start number many digits ≡ digitsFrom (kindIn tag a .unit) (startOf m s) number many (restOf m s)
+      → digitsFrom (kindIn tag a .unit) start number many digits ≡ digitsFrom (kindIn tag a .unit) (startOf m s) number many (capitals (restOf m s))
 
--- demand 2, after a change of a kind's run: a query of the same numbers says the very content that was sent; one of any part of them, or of any numbers
--- that hold them or a part of them, says these digits in their place
+-- demand 2, after a change of a kind's run: a query of the same numbers says the very content that was sent, in capitals (02, l); one of any part of
+-- them, or of any numbers that hold them or a part of them, says these digits in their place
 pub record RunRead (board : Conduct) (a : Areas) (id : List ℕ) (tag : ℕ) (m : Message) (s : Sent) (later : List Sent) : Type 0 where
   pub kind : m .tag ≡ tag
-  pub whole : untouched tag (startOf m s) (countOf m s) later ≡ true → Says board a (id ++ take 7 (content s)) (id ++ content s)
+  pub whole : untouched tag (startOf m s) (countOf m s) later ≡ true → Says board a (id ++ capitals (take 7 (content s))) (id ++ capitals (content s))
   pub any-run : (start count : ℕ) → 1 ≤ count → count ≤ 255 → holds (kindIn tag a) start count ≡ true → RunSaid board a id tag m s later start count
 
 -- and each integer that a 24CH changed stands in its area as the number that its eight digits write, "four bytes an integer, high byte first" (02, a)
@@ -126,13 +129,14 @@ abbrev pub FlagStored : Areas → Message → Sent → List Sent → Type 0
 FlagStored a m s later =
     untouched flagsTag (startOf m s) 1 later ≡ true → getD (a .flags) (placeOf (kindIn flagsTag a) (startOf m s)) 0 ≡ numberOf (restOf m s)
 
--- the points that a 244H's digits send, each with its number before its very digits (as 209H lists them, 4-3-5)
+-- the points that digits write, each with its number before its very digits (as 209H lists them, 4-3-5)
 unfoldable pub sent : ℕ → ℕ → List ℕ → List (List ℕ)
 sent zero number digits = []
 sent (suc count) number digits = (digitsOf 3 number ++ take (lengthOf digits) digits) ∷ sent count (suc number) (drop (lengthOf digits) digits)
 
+-- those that a 244H sends, in capitals (02, l)
 abbrev pub sentBy : Message → Sent → List (List ℕ)
-sentBy m s = sent (countOf m s) (startOf m s) (restOf m s)
+sentBy m s = sent (countOf m s) (startOf m s) (capitals (restOf m s))
 
 -- the leading ones that fit into so much room ("as many leading ones as keep the reply within 1,024 bytes")
 unfoldable pub fitting : ℕ → List (List ℕ) → List (List ℕ)
@@ -155,7 +159,7 @@ asksPoints start count = text "209" ++ (digitsOf 3 start ++ digitsOf 3 count)
 pub record PointsRead (board : Conduct) (a : Areas) (m : Message) (s : Sent) (later : List Sent) : Type 0 where
   pub kind : m .tag ≡ pointsTag
   pub listed :
-      untouched pointsTag (startOf m s) (countOf m s) later ≡ true → Says board a (text "209" ++ take 6 (content s)) (lists (fitting listRoom (sentBy m s)))
+      untouched pointsTag (startOf m s) (countOf m s) later ≡ true → Says board a (text "209" ++ capitals (take 6 (content s))) (lists (fitting listRoom (sentBy m s)))
   pub each :
       (i : ℕ) → i < countOf m s → untouched pointsTag (startOf m s + i) 1 later ≡ true
       → Says board a (asksPoints (startOf m s + i) 1) (lists (getD (sentBy m s) i [] ∷ []))
@@ -163,7 +167,7 @@ pub record PointsRead (board : Conduct) (a : Areas) (m : Message) (s : Sent) (la
 -- demand 2, after a 246H: those points are not listed, all of them and each
 pub record PointsGone (board : Conduct) (a : Areas) (m : Message) (s : Sent) (later : List Sent) : Type 0 where
   pub kind : m .tag ≡ pointsTag
-  pub listed : untouched pointsTag (startOf m s) (countOf m s) later ≡ true → Says board a (text "209" ++ content s) (text "209000")
+  pub listed : untouched pointsTag (startOf m s) (countOf m s) later ≡ true → Says board a (text "209" ++ capitals (content s)) (text "209000")
   pub each :
       (i : ℕ) → i < countOf m s → untouched pointsTag (startOf m s + i) 1 later ≡ true → Says board a (asksPoints (startOf m s + i) 1) (text "209000")
 
@@ -176,6 +180,8 @@ pub record Reads (board : Conduct) (a : Areas) (m : Message) (s : Sent) (later :
   pub flag-stored : m .id ≡ 0x24B → FlagStored a m s later
   pub points : m .id ≡ 0x244 → PointsRead board a m s later
   pub cleared : m .id ≡ 0x246 → PointsGone board a m s later
+  -- under release 1 what was sent is in capitals already (02, l), but for a 200H's ten bytes
+  pub as-sent : s .settings .release ≡ 1 → anyBytes (m .follows) ≡ false → capitals (content s) ≡ content s
 
 -- "slots with a non-zero pattern"
 abbrev pub effectiveOf : Areas → ℕ

@@ -21,9 +21,9 @@ pub record OneNumber : Type 0 where
   pub frame : (c : Call) → answerOf c .number ≡ refusalOf c
   pub back : (a : Areas) → backOf a .number ≡ backRefusalOf a
 
--- a frame's numbers ("Refusal numbers"; 02, a): "An accepted call has number 0", 1 to 8 and 10 come without a reply, 101 to 108 with the error reply
+-- a frame's numbers ("Refusal numbers"; 02, a and l): "An accepted call has number 0", 1 to 8, 10 and 13 come without a reply, 101 to 108 with the error reply
 abbrev pub frameNumbers : List ℕ
-frameNumbers = 0 ∷ 1 ∷ 2 ∷ 3 ∷ 10 ∷ 4 ∷ 5 ∷ 6 ∷ 7 ∷ 8 ∷ 101 ∷ 102 ∷ 103 ∷ 104 ∷ 105 ∷ 106 ∷ 107 ∷ 108 ∷ []
+frameNumbers = 0 ∷ 1 ∷ 2 ∷ 3 ∷ 10 ∷ 4 ∷ 5 ∷ 13 ∷ 6 ∷ 7 ∷ 8 ∷ 101 ∷ 102 ∷ 103 ∷ 104 ∷ 105 ∷ 106 ∷ 107 ∷ 108 ∷ []
 
 -- the step back's: it "tests 2, 3, 4, then 9" ("Refusal numbers"), and 10 after 3 (02, a)
 abbrev pub backNumbers : List ℕ
@@ -44,7 +44,7 @@ pub record ChangesNothing : Type 0 where
   pub frame : (c : Call) → (answerOf c .number ≡ 0 → ⊥) → answerOf c .areas ≡ c .areas
   pub back : (a : Areas) → (backOf a .number ≡ 0 → ⊥) → backOf a .areas ≡ a
 
--- "one fixed reply, or none": below 100 none, from 101 the ten bytes that number and station give; from 9 on only 10 comes before these
+-- "one fixed reply, or none": below 100 none, from 101 the ten bytes that number and station give; from 9 on only 10 and 13 come before these
 pub record OneReply : Type 0 where
   pub none : (c : Call) → (answerOf c .number ≡ 0 → ⊥) → answerOf c .number < 100 → answerOf c .text ≡ []
   pub ten :
@@ -53,14 +53,15 @@ pub record OneReply : Type 0 where
   -- so the reply area is left as it was, or beyond its first ten bytes
   pub area-left : (c : Call) → (answerOf c .number ≡ 0 → ⊥) → answerOf c .number < 100 → laid (c .sent .reply) 0 (answerOf c .text) ≡ c .sent .reply
   pub beyond-ten : (c : Call) → 101 ≤ answerOf c .number → drop 10 (laid (c .sent .reply) 0 (answerOf c .text)) ≡ drop 10 (c .sent .reply)
-  pub no-other : (c : Call) → 9 ≤ answerOf c .number → (answerOf c .number ≡ 10) ⊎ (101 ≤ answerOf c .number)
+  pub no-other : (c : Call) → 9 ≤ answerOf c .number → (answerOf c .number ≡ 10) ⊎ (answerOf c .number ≡ 13) ⊎ (101 ≤ answerOf c .number)
   pub back : (a : Areas) → backOf a .text ≡ []
 
 -- "Granted that no refusal without a reply holds for the call, an error reply depends on frame, station, N and fitted axes only", and "may depend on
--- settings too" (02, a), the first numbers: two such calls
+-- settings too" (02, a), the first numbers and the release (02, l): two such calls
 pub record SameError (c d : Call) : Type 0 where
   pub frame : c .sent .frame ≡ d .sent .frame
   pub station : c .sent .settings .station ≡ d .sent .settings .station
+  pub release : c .sent .settings .release ≡ d .sent .settings .release
   pub held : link.held c ≡ link.held d
   pub fitted : c .sent .settings .fitted ≡ d .sent .settings .fitted
   pub heard : (silentOf c ≡ 0) × (silentOf d ≡ 0)

@@ -10,12 +10,11 @@ use Rattle.kinds.specs.Kinds.{pointsOf, kindOf, placeOf, runOf}
 use Rattle.points.specs.Point.{effectiveIn}
 use Rattle.table.specs.declared.Message.{Message}
 use Rattle.table.specs.declared.Named.the-variants.{Known}
-use Rattle.table.specs.Table.{messageOf}
 use Rattle.calls.specs.Calls.{Sent, Call, areaIn}
 use Rattle.refusals.specs.Refusals.{refusalOf}
 use Rattle.orders.specs.Orders.{writes}
 use Rattle.link.specs.Answer.{held}
-use Rattle.demands.specs.History.{Conduct, Past, AfterAny}
+use Rattle.demands.specs.History.{Conduct, messageBy, Past, AfterAny}
 use Rattle.demands.specs.Reading.{startOf, countOf, Host, Reads, effectiveOf, Tells}
 
 -- a frame of a message ("What the board answers"), by the ID of its row in the table, for which no refusal holds, whatever a board makes of it; what is
@@ -23,7 +22,7 @@ use Rattle.demands.specs.Reading.{startOf, countOf, Host, Reads, effecti
 pub record Accepted (id : ℕ) (c : Call) : Type 0 where
   pub message : Message
   pub named : message .id ≡ id
-  pub known : messageOf (c .sent .frame) ≡ Known message
+  pub known : messageBy (c .sent) ≡ Known message
   pub number : refusalOf c ≡ 0
   pub bytes : (i : ℕ) → getD (c .areas .journal) i 0 < 256
 
@@ -60,7 +59,7 @@ Once board m c new = effectiveOf (board .answer c .areas) + effectiveNamed m c �
 pub record Lasts (board : Conduct) (p : Past) : Type 0 where
   pub tells : Tells board (p .areas)
   pub read :
-      (earlier later : List Sent) (s : Sent) (m : Message) → p .standing-writes ≡ earlier ++ (s ∷ later) → messageOf (s .frame) ≡ Known m
+      (earlier later : List Sent) (s : Sent) (m : Message) → p .standing-writes ≡ earlier ++ (s ∷ later) → messageBy s ≡ Known m
       → Reads board (p .areas) m s later
 
 pub record EveryDigitSurvives (board : Conduct) : Type 0 where

@@ -4,11 +4,11 @@ use native.Mathlib.Omega.{arith}
 use native.Mathlib.Nat.{pow-suc, pow-zero, le-of-suc-le-suc}
 use mathlib.Core.Path.{_≡_, refl, sym, ap, ap₂, _∙_}
 use mathlib.Core.Bool.{Bool, true, false, _&&_}
-use mathlib.Core.List.{List, [], _∷_, _++_, append-nil}
+use mathlib.Core.List.{List, [], _∷_, _++_, append-nil, map-append}
 use lib.ListN.{length, take, drop, length-append}
-use Rattle.digits.specs.Digits.{isDigit, worthOf, byteOf, allDigits, numberAfter, numberOf, digitsOf}
-use Rattle.digits.specs.Laws.{Inverse}
-use Rattle.digits.proofs.OneDigit.{worth-byte, byte-worth, below-sixteen}
+use Rattle.digits.specs.Digits.{admits, worthOf, byteOf, capital, capitals, admitted, allDigits, numberAfter, numberOf, digitsOf}
+use Rattle.digits.specs.Laws.{Inverse, Rules}
+use Rattle.digits.proofs.OneDigit.{worth-byte, byte-worth, below-sixteen, capital-same, narrower, wider, by-capital}
 
 pub and-left : (a b : Bool) → a && b ≡ true → a ≡ true
 and-left true b e = refl
@@ -23,30 +23,30 @@ pub after-append : (n : ℕ) (s t : List ℕ) → numberAfter n (s ++ t) ≡ num
 after-append n [] t = refl
 after-append n (b ∷ s) t = after-append (n * 16 + worthOf b) s t
 
-pub all-append : (s t : List ℕ) → allDigits (s ++ t) ≡ allDigits s && allDigits t
-all-append [] t = refl
-all-append (b ∷ s) t = go (isDigit b) (all-append s t)
+pub all-append : (r : ℕ) (s t : List ℕ) → admitted r (s ++ t) ≡ admitted r s && admitted r t
+all-append r [] t = refl
+all-append r (b ∷ s) t = go (admits r b) (all-append r s t)
   where
-    go : (p : Bool) → allDigits (s ++ t) ≡ allDigits s && allDigits t → p && allDigits (s ++ t) ≡ (p && allDigits s) && allDigits t
+    go : (p : Bool) → admitted r (s ++ t) ≡ admitted r s && admitted r t → p && admitted r (s ++ t) ≡ (p && admitted r s) && admitted r t
     go true e = e
     go false e = refl
 
 module _ (s : List ℕ) where
   pub all-left : (t : List ℕ) → allDigits (s ++ t) ≡ true → allDigits s ≡ true
-  all-left t e = and-left (allDigits s) (allDigits t) (sym (all-append s t) ∙ e)
+  all-left t e = and-left (allDigits s) (allDigits t) (sym (all-append 2 s t) ∙ e)
 
   pub all-right : (t : List ℕ) → allDigits (s ++ t) ≡ true → allDigits t ≡ true
-  all-right t e = and-right (allDigits s) (allDigits t) (sym (all-append s t) ∙ e)
+  all-right t e = and-right (allDigits s) (allDigits t) (sym (all-append 2 s t) ∙ e)
 
 -- as many digits as the width says
 pub as-many : (width n : ℕ) → length (digitsOf width n) ≡ width
 as-many zero n = refl
 as-many (suc w) n = simp (length-append, as-many w (n / 16)) (omega arith)
 
-pub are-digits : (width n : ℕ) → allDigits (digitsOf width n) ≡ true
-are-digits zero n = refl
-are-digits (suc w) n =
-    rw (all-append (digitsOf w (n / 16)) _, are-digits w (n / 16), worth-byte (n % 16) (omega arith) .1)
+pub are-digits : (width r n : ℕ) → admitted r (digitsOf width n) ≡ true
+are-digits zero r n = refl
+are-digits (suc w) r n =
+    rw (all-append r (digitsOf w (n / 16)) _, are-digits w r (n / 16), worth-byte (n % 16) (omega arith) .1 r)
 
 value : (width n : ℕ) → n < 16 ^ width → numberOf (digitsOf width n) ≡ n
 value zero n h = omega (arith, pow-zero 16)
@@ -81,8 +81,8 @@ below zero (b ∷ s) l = absurd (omega arith)
 below (suc w) [] l = absurd (omega arith)
 below (suc w) (b ∷ s) l = below-last w (below w) (last b s) l
 
-digits-last : (w : ℕ) → ((s : List ℕ) → length s ≡ w → allDigits s ≡ true → digitsOf w (numberOf s) ≡ s)
-    → {t : List ℕ} → Snoc t → length t ≡ suc w → allDigits t ≡ true → digitsOf (suc w) (numberOf t) ≡ t
+digits-last : (w : ℕ) → ((s : List ℕ) → length s ≡ w → allDigits s ≡ true → digitsOf w (numberOf s) ≡ capitals s)
+    → {t : List ℕ} → Snoc t → length t ≡ suc w → allDigits t ≡ true → digitsOf (suc w) (numberOf t) ≡ capitals t
 digits-last w ih (snoc s b) l a =
     let k : length s ≡ w = omega (arith, simp length-append at l) in
     let d = below-sixteen b in
@@ -90,9 +90,9 @@ digits-last w ih (snoc s b) l a =
     let v : numberOf (s ++ (b ∷ [])) ≡ numberOf s * 16 + worthOf b = after-append 0 s (b ∷ []) in
     let q : numberOf (s ++ (b ∷ [])) / 16 ≡ numberOf s = omega arith in
     let r : numberOf (s ++ (b ∷ [])) % 16 ≡ worthOf b = omega arith in
-    rw (q, r, e, byte-worth b (and-left _ _ (all-right s (b ∷ []) a)))
+    rw (q, r, e, byte-worth b (and-left _ _ (all-right s (b ∷ []) a))) (sym (map-append capital s (b ∷ [])))
 
-digits : (width : ℕ) (s : List ℕ) → length s ≡ width → allDigits s ≡ true → digitsOf width (numberOf s) ≡ s
+digits : (width : ℕ) (s : List ℕ) → length s ≡ width → allDigits s ≡ true → digitsOf width (numberOf s) ≡ capitals s
 digits zero [] l a = refl
 digits zero (b ∷ s) l a = absurd (omega arith)
 digits (suc w) [] l a = absurd (omega arith)
@@ -107,3 +107,27 @@ inverse w =
       as-many = as-many w;
       are-digits = are-digits w;
     }
+
+capitals-only : (s : List ℕ) → admitted 1 s ≡ true → capitals s ≡ s
+capitals-only [] a = refl
+capitals-only (b ∷ s) a =
+    rw (capital-same b (and-left _ _ a), capitals-only s (and-right (admits 1 b) (admitted 1 s) a))
+
+either : (s : List ℕ) → allDigits s ≡ admitted 1 (capitals s)
+either [] = refl
+either (b ∷ s) = rw (by-capital b .0, either s)
+
+all-digits : (s : List ℕ) (r : ℕ) → admitted r s ≡ true → allDigits s ≡ true
+all-digits [] r a = refl
+all-digits (b ∷ s) r a = rw (wider r b (and-left _ _ a), all-digits s r (and-right (admits r b) (admitted r s) a))
+
+from-one : (s : List ℕ) (r : ℕ) → admitted 1 s ≡ true → admitted r s ≡ true
+from-one [] r a = refl
+from-one (b ∷ s) r a = rw (narrower r b (and-left _ _ a), from-one s r (and-right (admits 1 b) (admitted 1 s) a))
+
+same-after : (n : ℕ) (s : List ℕ) → numberAfter n (capitals s) ≡ numberAfter n s
+same-after n [] = refl
+same-after n (b ∷ s) = same-after (n * 16 + worthOf (capital b)) s ∙ ap (λ (d : ℕ). numberAfter (n * 16 + d) s) (by-capital b .1)
+
+pub rules : (s : List ℕ) → Rules s
+rules s = record { capitals-only = capitals-only s; either = either s; least = from-one s; digits = all-digits s; same-number = same-after 0 s }

@@ -9,30 +9,36 @@ use lib.ListN.{length, take, drop, getD, length-append, length-take, length-drop
 use lib.Seq.{length-take-le, take-at, drop-at}
 use lib.Dec.{ltb, eqb}
 use borrow.Author.Tests.{eqb-true, eq-eqb, ne-eqb, ltb-true, ltb-false}
-use Rattle.digits.specs.Digits.{byteOf, digitsOf, allDigits, numberOf}
-use Rattle.digits.proofs.Inverse.{and-left, and-right, inverse}
+use Rattle.digits.specs.Digits.{byteOf, capitals, digitsOf, admitted, numberOf}
+use Rattle.digits.proofs.Inverse.{and-left, and-right, inverse, rules}
 use Rattle.frames.specs.Frame.{stationIn, beforeSC, scIn, scOf, lowByte, saysNumber, sumTrue, sumOff, closed, replyOf, CR, LF}
 use Rattle.frames.specs.Laws.{TrueSC, Reply}
 use Rattle.frames.proofs.Closing.{length-reply}
 
--- two bytes say a number below 256 just where they are its two digits
-pub says-digits : (s : List ℕ) (n : ℕ) → length s ≡ 2 → n < 256 → (saysNumber s n ≡ true) ↔ (s ≡ digitsOf 2 n)
-says-digits s n l h = (there, back)
+-- two bytes say a number below 256 just where they are admitted and are, in capitals, its two digits
+pub says-digits : (r : ℕ) (s : List ℕ) (n : ℕ) → length s ≡ 2 → n < 256 → (saysNumber r s n ≡ true) ↔ ((admitted r s ≡ true) × (capitals s ≡ digitsOf 2 n))
+says-digits r s n l h = (there, back)
   where
-    there : saysNumber s n ≡ true → s ≡ digitsOf 2 n
+    there : saysNumber r s n ≡ true → (admitted r s ≡ true) × (capitals s ≡ digitsOf 2 n)
     there e =
-        let a = and-left (allDigits s) (eqb (numberOf s) n) e in
-        let v = eqb-true (numberOf s) n (and-right (allDigits s) (eqb (numberOf s) n) e) in
-        sym (inverse 2 .digits-of-value s l a) ∙ ap (digitsOf 2) v
+        let a = and-left (admitted r s) (eqb (numberOf s) n) e in
+        let v = eqb-true (numberOf s) n (and-right (admitted r s) (eqb (numberOf s) n) e) in
+        (a, sym (inverse 2 .digits-of-value s l (rules s .digits r a)) ∙ ap (digitsOf 2) v)
 
-    back : s ≡ digitsOf 2 n → saysNumber s n ≡ true
-    back e = rw (e, inverse 2 .are-digits n) (eq-eqb _ n (inverse 2 .value-of-digits n h))
+    back : (admitted r s ≡ true) × (capitals s ≡ digitsOf 2 n) → saysNumber r s n ≡ true
+    back e = rw (e .0) (eq-eqb _ n (sym (rules s .same-number) ∙ ap numberOf (e .1) ∙ inverse 2 .value-of-digits n h))
 
-pub true-sc : (frame : List ℕ) → TrueSC frame
+-- so a number's own two digits say it, under every release
+pub own-digits : (r n : ℕ) → n < 256 → saysNumber r (digitsOf 2 n) n ≡ true
+own-digits r n h =
+    says-digits r (digitsOf 2 n) n (inverse 2 .as-many n) h .1
+    (inverse 2 .are-digits r n, rules (digitsOf 2 n) .capitals-only (inverse 2 .are-digits 1 n))
+
+pub true-sc : (r : ℕ) (frame : List ℕ) → TrueSC r frame
 unfolding sumTrue
-true-sc frame h =
+true-sc r frame h =
     let k : 2 ≤ length (drop (length frame - 4) frame) = simp length-drop (omega arith) in
-    says-digits (scIn frame) (lowByte (beforeSC frame)) (length-take-le 2 (drop (length frame - 4) frame) k) (omega arith)
+    says-digits r (scIn frame) (lowByte (beforeSC frame)) (length-take-le 2 (drop (length frame - 4) frame) k) (omega arith)
 
 module _ (before : List ℕ) where
   length-closed : length (closed before) ≡ length before + 4
@@ -45,8 +51,9 @@ module _ (before : List ℕ) where
   sc-closed =
       ap (take 2) (drop-at before (scOf before ++ (CR ∷ LF ∷ [])) (length (closed before) - 4) (omega (arith, length-closed)))
 
-  pub closed-true : sumTrue (closed before) ≡ true
-  closed-true = true-sc (closed before) (omega (arith, length-closed)) .1 (sc-closed ∙ ap scOf (sym before-closed))
+  pub closed-true : (r : ℕ) → sumTrue r (closed before) ≡ true
+  unfolding sumTrue
+  closed-true r = rw (sc-closed, before-closed) (own-digits r (lowByte before) (omega arith))
 
 -- a digit's byte is not '@'
 digit-not-off : (n : ℕ) → n < 16 → eqb (byteOf n) 0x40 ≡ false

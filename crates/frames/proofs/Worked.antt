@@ -1,11 +1,11 @@
 -- The worked cases, by computing.
 use mathlib.Core.Path.{refl}
-use Rattle.digits.specs.Digits.{isDigit, worthOf, byteOf}
+use Rattle.digits.specs.Digits.{admits, worthOf, byteOf}
 use Rattle.frames.specs.Frame.{hasTestID, shaped, sumTrue, sumOff, sumPasses, stationPasses, replyOf}
 use Rattle.frames.specs.Cases.{Cases}
 
 pub cases : Cases
-unfolding isDigit worthOf byteOf hasTestID shaped sumTrue sumOff sumPasses stationPasses replyOf
+unfolding admits worthOf byteOf hasTestID shaped sumTrue sumOff sumPasses stationPasses replyOf
 cases =
     record {
       sum = refl;
@@ -14,14 +14,17 @@ cases =
       wrong = refl;
       off = refl;
       capital-sum = refl;
-      capital = refl;
-      small = refl;
+      capital = λ r. refl;
+      small = (refl, refl);
+      as-sent = (refl, refl);
+      small-off = (refl, refl);
       bench = refl;
       test-calls = (refl, refl, refl);
       other = refl;
       id-cut = (refl, refl);
-      ours = refl;
-      not-ours = refl;
+      ours = λ r. refl;
+      not-ours = λ r. refl;
+      small-station = (refl, refl);
       unknown = refl;
       lot-code = refl;
     }

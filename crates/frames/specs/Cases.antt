@@ -1,4 +1,5 @@
 -- Worked cases of frames, in the documents' own strings. Proved by computing, in proofs/Worked.antt.
+use Prim.Native.Nat.{ℕ}
 use mathlib.Core.Path.{_≡_}
 use mathlib.Core.Bool.{true, false}
 use Rattle.digits.specs.Text.{text}
@@ -8,14 +9,17 @@ pub record Cases : Type 0 where
   -- Proved cases, 1; 000, section 3: "Total sum [..] = 254H", "The checksum is calculated as '54.'"
   pub sum : sumOf (text "!99209001005") ≡ 0x254
   pub sc : scOf (text "!99209001005") ≡ text "54"
-  pub passes : sumPasses (text "!9920900100554\r\n") ≡ true
+  pub passes : sumPasses 1 (text "!9920900100554\r\n") ≡ true
   -- Proved cases, 2: the same with SC 55; 3: with @@
-  pub wrong : sumPasses (text "!9920900100555\r\n") ≡ false
-  pub off : sumPasses (text "!99209001005@@\r\n") ≡ true
-  -- Run and compared: SC 5a for 5A is refused (test 7)
+  pub wrong : sumPasses 1 (text "!9920900100555\r\n") ≡ false
+  pub off : sumPasses 1 (text "!99209001005@@\r\n") ≡ true
+  -- Run and compared: SC 5a for 5A is refused (test 7); 02, l: under release 1, and not under release 2
   pub capital-sum : sumOf (text "!99209001029") ≡ 0x25A
-  pub capital : sumPasses (text "!992090010295A\r\n") ≡ true
-  pub small : sumPasses (text "!992090010295a\r\n") ≡ false
+  pub capital : (release : ℕ) → sumPasses release (text "!992090010295A\r\n") ≡ true
+  pub small : (sumPasses 1 (text "!992090010295a\r\n") ≡ false) × (sumPasses 2 (text "!992090010295a\r\n") ≡ true)
+  -- 02, l: the sum is of the bytes as sent, 2C4H, and not of their capitals, 2A4H; '@@' switches it off all the same
+  pub as-sent : (sumPasses 2 (text "!9924e0012C00C4\r\n") ≡ true) × (sumPasses 2 (text "!9924e0012C00A4\r\n") ≡ false)
+  pub small-off : (sumPasses 1 (text "!9924e0012C00@@\r\n") ≡ true) × (sumPasses 2 (text "!9924e0012C00@@\r\n") ≡ true)
   -- Bench listing: the frames are shaped and for station 99H; the error reply to the third
   pub bench : shaped (text "!99200001234567829\r\n") ≡ true
   -- 02, c: 200H frames of 19, 20 and 21 bytes, whatever stands for the station; another message's length isn't test 6's
@@ -23,8 +27,10 @@ pub record Cases : Type 0 where
       (shaped (text "!99200123456789@@\r\n") ≡ false) × (shaped (text "!99200\r\n\r\n!99200@@\r\n") ≡ true) × (shaped (text "!\r\n2000123456789012\r\n") ≡ false)
   pub other : shaped (text "!99201123456789@@\r\n") ≡ true
   pub id-cut : (hasTestID (text "!9920") ≡ false) × (hasTestID (text "!99200") ≡ true)
-  pub ours : stationPasses 0x99 (text "!99200001234567829\r\n") ≡ true
-  pub not-ours : stationPasses 0x99 (text "!9A200001234567829\r\n") ≡ false
+  pub ours : (release : ℕ) → stationPasses release 0x99 (text "!99200001234567829\r\n") ≡ true
+  pub not-ours : (release : ℕ) → stationPasses release 0x99 (text "!9A200001234567829\r\n") ≡ false
+  -- 02, l: station 9AH in a small letter
+  pub small-station : (stationPasses 1 0x9A (text "!9a200001234567829\r\n") ≡ false) × (stationPasses 2 0x9A (text "!9a200001234567829\r\n") ≡ true)
   pub unknown : errorOf 0x99 101 ≡ text "&991012A\r\n"
   -- Proved cases, 7: the reply to `!992100012C0490`
   pub lot-code : replyOf normal 0x99 (text "2100012C0430303437") ≡ text "#992100012C043030343729\r\n"

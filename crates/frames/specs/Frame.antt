@@ -1,10 +1,10 @@
--- Document 01, "Frame", and the tests 6, 7 and 8 of its refusal table, with document 02, request c; source document 000, sections 3 and 4-3-1.
+-- Document 01, "Frame", and the tests 6, 7 and 8 of its refusal table, with document 02, requests c and l; source document 000, sections 3 and 4-3-1.
 use Prim.Native.Nat.{ℕ, _+_, _-_, _/_, _%_}
 use mathlib.Core.Bool.{Bool, not, _&&_, _||_}
 use mathlib.Core.List.{List, [], _∷_, _++_}
 use lib.ListN.{length, take, drop, getD}
 use lib.Dec.{leb, eqb}
-use Rattle.digits.specs.Digits.{byteOf, digitsOf, allDigits, numberOf}
+use Rattle.digits.specs.Digits.{byteOf, digitsOf, admitted, numberOf}
 
 -- "Header '!'"; "Replies start '#', or '&' for an error" (Frame; 000, section 3)
 abbrev pub command : ℕ
@@ -68,25 +68,25 @@ shaped frame =
     && (eqb (getD frame (length frame - 1) 0) LF
     && (leb 10 (length frame) && (leb (length frame) 1023 && testCallFits frame))))
 
--- a field is digits, and they write this number
-abbrev pub saysNumber : List ℕ → ℕ → Bool
-saysNumber field n = allDigits field && eqb (numberOf field) n
+-- a field is digits, as a release admits them, and they write this number (02, l)
+abbrev pub saysNumber : ℕ → List ℕ → ℕ → Bool
+saysNumber release field n = admitted release field && eqb (numberOf field) n
 
--- the SC is true (Frame)
-unfoldable pub sumTrue : List ℕ → Bool
-sumTrue frame = saysNumber (scIn frame) (lowByte (beforeSC frame))
+-- the SC is true (Frame); "The sum is always of the bytes as sent" (02, l)
+unfoldable pub sumTrue : ℕ → List ℕ → Bool
+sumTrue release frame = saysNumber release (scIn frame) (lowByte (beforeSC frame))
 
 -- "a command may carry '@@' instead and is then not checked" (Frame; '@' is 40H)
 unfoldable pub sumOff : List ℕ → Bool
 sumOff frame = eqb (getD (scIn frame) 0 0) 0x40 && eqb (getD (scIn frame) 1 0) 0x40
 
 -- Test 7, passed: the SC is "true" or "'@@'"
-unfoldable pub sumPasses : List ℕ → Bool
-sumPasses frame = sumTrue frame || sumOff frame
+unfoldable pub sumPasses : ℕ → List ℕ → Bool
+sumPasses release frame = sumTrue release frame || sumOff frame
 
 -- Test 8, passed: the station is "digits" and does not differ
-unfoldable pub stationPasses : ℕ → List ℕ → Bool
-stationPasses station frame = saysNumber (stationIn frame) station
+unfoldable pub stationPasses : ℕ → ℕ → List ℕ → Bool
+stationPasses release station frame = saysNumber release (stationIn frame) station
 
 -- what stands before an SC, with its SC, CR and LF (Frame)
 abbrev pub closed : List ℕ → List ℕ

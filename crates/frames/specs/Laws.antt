@@ -5,13 +5,15 @@ use mathlib.Core.Logic.{_↔_}
 use mathlib.Core.Bool.{true, false}
 use mathlib.Core.List.{List, [], _∷_}
 use lib.ListN.{length, drop, getD}
-use Rattle.digits.specs.Digits.{digitsOf}
+use Rattle.digits.specs.Digits.{capitals, admitted, digitsOf}
 use Rattle.digits.specs.Text.{text}
 use Rattle.frames.specs.Frame.{stationIn, messageIn, beforeSC, scIn, scOf, hasTestID, sumTrue, sumOff, replyOf, CR, LF}
 
--- Frame: "SC is the low byte of the sum of all bytes before it, as two digits": in four bytes or more, an SC is true just where its two bytes are those digits
-abbrev pub TrueSC : List ℕ → Type 0
-TrueSC frame = 4 ≤ length frame → (sumTrue frame ≡ true) ↔ (scIn frame ≡ scOf (beforeSC frame))
+-- Frame: "SC is the low byte of the sum of all bytes before it, as two digits": in four bytes or more, an SC is true just where its two bytes are admitted
+-- and are, in capitals, those digits (02, l)
+abbrev pub TrueSC : ℕ → List ℕ → Type 0
+TrueSC release frame =
+    4 ≤ length frame → (sumTrue release frame ≡ true) ↔ ((admitted release (scIn frame) ≡ true) × (capitals (scIn frame) ≡ scOf (beforeSC frame)))
 
 -- 02, c: a frame is a test call just where its ID is '200', and not where fewer bytes are there
 abbrev pub TestID : List ℕ → Type 0
@@ -21,7 +23,7 @@ TestID frame = (hasTestID frame ≡ true) ↔ (messageIn frame ≡ text "200")
 pub record Reply (header station : ℕ) (rest : List ℕ) : Type 0 where
   pub starts : getD (replyOf header station rest) 0 0 ≡ header
   pub says : stationIn (replyOf header station rest) ≡ digitsOf 2 station
-  pub is-true : sumTrue (replyOf header station rest) ≡ true
+  pub is-true : (release : ℕ) → sumTrue release (replyOf header station rest) ≡ true
   pub is-on : sumOff (replyOf header station rest) ≡ false
   pub ends : drop (length rest + 5) (replyOf header station rest) ≡ CR ∷ LF ∷ []
   pub as-long : length (replyOf header station rest) ≡ length rest + 7

@@ -47,12 +47,12 @@ pub fn is_shaped(frame: &[u8]) -> bool
     true
 }
 
-// A field's number is this one.
-fn is_number(field: &[u8], n: u8) -> bool
+// A field's number is this one, with the digits that a release admits.
+fn is_number(release: u8, field: &[u8], n: u8) -> bool
     requires { ⌜ length (now field) ≤ 8 ⌝ }
-    ensures { λ r. ⌜ r ≡ saysNumber (now (field .entry)) n ⌝ }
+    ensures { λ r. ⌜ r ≡ saysNumber release (now (field .entry)) n ⌝ }
 {
-    let said = digits::read_field(field);
+    let said = digits::read_field(release, field);
     match said {
         Field::Number(m) => m == n as u64,
         Field::NotDigits => false,
@@ -60,12 +60,12 @@ fn is_number(field: &[u8], n: u8) -> bool
 }
 
 // The SC is the low byte of the sum before it.
-pub fn is_sum_true(frame: &[u8]) -> bool
+pub fn is_sum_true(release: u8, frame: &[u8]) -> bool
     requires { ⌜ 10 ≤ length (now frame) ⌝ }
-    ensures { λ r. ⌜ r ≡ sumTrue (now (frame .entry)) ⌝ }
+    ensures { λ r. ⌜ r ≡ sumTrue release (now (frame .entry)) ⌝ }
 {
     let n = frame.len() - 4;
-    is_number(&frame[n..n + 2], sum(&frame[..n]))
+    is_number(release, &frame[n..n + 2], sum(&frame[..n]))
 }
 
 // The SC is '@@'.
@@ -81,20 +81,20 @@ pub fn is_sum_off(frame: &[u8]) -> bool
 }
 
 // Test 7, passed: the SC is true or '@@'.
-pub fn passes_sum(frame: &[u8]) -> bool
+pub fn passes_sum(release: u8, frame: &[u8]) -> bool
     requires { ⌜ 10 ≤ length (now frame) ⌝ }
-    ensures { λ r. ⌜ r ≡ sumPasses (now (frame .entry)) ⌝ }
+    ensures { λ r. ⌜ r ≡ sumPasses release (now (frame .entry)) ⌝ }
 {
     if is_sum_off(frame) {
         return true;
     }
-    is_sum_true(frame)
+    is_sum_true(release, frame)
 }
 
 // Test 8, passed: the station is digits and is this one.
-pub fn is_ours(frame: &[u8], station: u8) -> bool
+pub fn is_ours(release: u8, station: u8, frame: &[u8]) -> bool
     requires { ⌜ 10 ≤ length (now frame) ⌝ }
-    ensures { λ r. ⌜ r ≡ stationPasses station (now (frame .entry)) ⌝ }
+    ensures { λ r. ⌜ r ≡ stationPasses release station (now (frame .entry)) ⌝ }
 {
-    is_number(&frame[1..3], station)
+    is_number(release, &frame[1..3], station)
 }

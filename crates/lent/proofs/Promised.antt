@@ -17,7 +17,7 @@ use Rattle.messages.specs.Asked.{askedRows}
 use Rattle.calls.specs.declared.Settings.{Settings}
 use Rattle.calls.specs.Calls.{Areas, lengthsOf, callOf}
 use Rattle.refusals.specs.Refusals.{axesFit, areaRows, refusalOf}
-use Rattle.refusals.proofs.Rows.{areaNumber, frameNumber, area-rows, areas-pass, past-areas, refusal-is}
+use Rattle.refusals.proofs.Rows.{areaNumber, ownNumber, area-rows, areas-pass, past-areas, refusal-is}
 use Rattle.lent.specs.Laws.{SameEight, OtherCount}
 
 pub same-eight : SameEight
@@ -29,10 +29,10 @@ not-eight fitted = refl
 
 pub other-count : OtherCount
 other-count frame records settings reply a n r e =
-    let k = firstOf (askedRows (heldIn (lengthsOf a)) (settings .fitted) (messageOf frame) (contentIn frame)) in
+    let k = firstOf (askedRows (heldIn (lengthsOf a)) (settings .fitted) (settings .release) (messageOf (settings .release) frame) (contentIn frame)) in
     let p = areas-pass (lengthsOf a) (a .journal) (a .kept) (sym (area-rows (lengthsOf a) (a .journal) (a .kept)) ∙ e) .0 in
     let l : lentAxes records ≡ noAxes = rw (ne-eqb (length records) 8 n) in
     ap (λ (x : Axes). refusalOf (callOf frame x settings reply a)) l
     ∙ refusal-is (callOf frame noAxes settings reply a)
     ∙ rw (le-ltb (length reply) 1024 r)
-    (past-areas (lengthsOf a) (a .journal) (a .kept) p (cond (not (axesFit noAxes (settings .fitted))) 5 (frameNumber (settings .station) frame k)) ∙ rw (not-eight (settings .fitted)))
+    (past-areas (lengthsOf a) (a .journal) (a .kept) p (ownNumber noAxes settings frame k) ∙ rw (not-eight (settings .fitted)))

@@ -38,13 +38,13 @@ heard-answer c e = rw e
 
 -- the number of what is asked is that of its rows
 pub asked-number : (c : Call)
-    → numberGiven (asked c) ≡ firstOf (askedRows (heldIn (lengthsOf (c .areas))) (c .sent .settings .fitted) (messageOf (c .sent .frame)) (contentIn (c .sent .frame)))
+    → numberGiven (asked c) ≡ firstOf (askedRows (heldIn (lengthsOf (c .areas))) (c .sent .settings .fitted) (c .sent .settings .release) (messageOf (c .sent .settings .release) (c .sent .frame)) (contentIn (c .sent .frame)))
 unfolding askedOf
-asked-number c = number-judged (heldIn (lengthsOf (c .areas))) (c .sent .settings .fitted) (messageOf (c .sent .frame)) (contentIn (c .sent .frame))
+asked-number c = number-judged (heldIn (lengthsOf (c .areas))) (c .sent .settings .fitted) (c .sent .settings .release) (messageOf (c .sent .settings .release) (c .sent .frame)) (contentIn (c .sent .frame))
 
 pub heard-number : (c : Call) → silentOf c ≡ 0 → refusalOf c ≡ numberGiven (asked c)
 heard-number c e =
-    let k = firstOf (askedRows (heldIn (lengthsOf (c .areas))) (c .sent .settings .fitted) (messageOf (c .sent .frame)) (contentIn (c .sent .frame))) in
+    let k = firstOf (askedRows (heldIn (lengthsOf (c .areas))) (c .sent .settings .fitted) (c .sent .settings .release) (messageOf (c .sent .settings .release) (c .sent .frame)) (contentIn (c .sent .frame))) in
     refusal-is c
     ∙ past-silent (length (c .sent .reply)) (c .sent .frame) (c .sent .axes) (c .sent .settings) (lengthsOf (c .areas)) (c .areas .journal) (c .areas .kept)
     (call-passed c e)
@@ -54,7 +54,7 @@ heard-number c e =
 -- a refusal without a reply is the table's, and below 101
 pub silent-number : (c : Call) → (silentOf c ≡ 0 → ⊥) → (refusalOf c ≡ silentOf c) × (silentOf c < 101)
 silent-number c n =
-    let k = firstOf (askedRows (heldIn (lengthsOf (c .areas))) (c .sent .settings .fitted) (messageOf (c .sent .frame)) (contentIn (c .sent .frame))) in
+    let k = firstOf (askedRows (heldIn (lengthsOf (c .areas))) (c .sent .settings .fitted) (c .sent .settings .release) (messageOf (c .sent .settings .release) (c .sent .frame)) (contentIn (c .sent .frame))) in
     let h =
     silent-given (length (c .sent .reply)) (c .sent .frame) (c .sent .axes) (c .sent .settings) (lengthsOf (c .areas)) (c .areas .journal) (c .areas .kept) k
     (λ z. n (silent-is c ∙ z)) in
@@ -90,7 +90,7 @@ accepted c e = go (eqb (silentOf c) 0) refl
     low (Order m start count) q z f k = record { heard = z; message = m; start = start; count = count; order = q }
 
     go : (b : Bool) → eqb (silentOf c) 0 ≡ b → Accepted c
-    go true q = let z = eqb-true _ _ q in low (asked c) refl z (none z) (λ w. refused-some (heldIn (lengthsOf (c .areas))) (c .sent .settings .fitted) (c .sent .frame) w)
+    go true q = let z = eqb-true _ _ q in low (asked c) refl z (none z) (λ w. refused-some (heldIn (lengthsOf (c .areas))) (c .sent .settings .fitted) (c .sent .settings .release) (c .sent .frame) w)
     go false q = let z = eqb-false _ _ q in absurd (z (sym (silent-number c z .0) ∙ sym (frame-number c) ∙ e))
 
 -- the step back's outcome
@@ -103,5 +103,5 @@ unfolding backOf
 accepted-back a e = rw e
 
 -- what is asked, of what is held as it was worked out
-pub same-asked : {a : Asked} {h h′ : Held} (fitted : ℕ) (frame : List ℕ) → a ≡ askedOf h fitted frame → h ≡ h′ → askedOf h′ fitted frame ≡ a
-same-asked fitted frame e f = cc
+pub same-asked : {a : Asked} {h h′ : Held} (fitted release : ℕ) (frame : List ℕ) → a ≡ askedOf h fitted release frame → h ≡ h′ → askedOf h′ fitted release frame ≡ a
+same-asked fitted release frame e f = cc

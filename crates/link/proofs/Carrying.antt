@@ -52,6 +52,7 @@ ordered c o e w =
     record {
       sound = rw (e .held-is) (f .sound-held);
       fitted = c .sent .settings .fitted;
+      release = c .sent .settings .release;
       frame-long = f .frame-long;
       order = rw (e .held-is) (e .order);
       area-long = rw (e .held-is) (λ z. ap length (w z) ∙ areas-long (c .areas) (f .areas) (o .message .tag));

@@ -19,7 +19,7 @@ abbrev pub held : Call → Held
 held c = heldIn (lengthsOf (c .areas))
 
 abbrev pub asked : Call → Asked
-asked c = askedOf (held c) (c .sent .settings .fitted) (c .sent .frame)
+asked c = askedOf (held c) (c .sent .settings .fitted) (c .sent .settings .release) (c .sent .frame)
 
 -- the reply: from 101 on the "error" reply, "10 reply bytes written, nothing else"
 abbrev pub textOf : Call → Asked → List ℕ

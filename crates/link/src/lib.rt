@@ -138,7 +138,7 @@ pub fn answer(
         };
     }
     let held = held_in(lengths);
-    let asked = judge(frame, held, settings.fitted);
+    let asked = judge(frame, held, settings.fitted, settings.release);
     match asked {
         Asked::Refused { number: given } => refuse(reply, settings.station, given, kept),
         Asked::Order {

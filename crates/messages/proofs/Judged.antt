@@ -7,7 +7,8 @@ use native.Mathlib.Omega.{arith}
 use lib.Dec.{eqb, leb}
 use lib.ListN.{length}
 use borrow.Author.Tests.{eqb-true, eqb-false, eq-eqb, ne-eqb, le-leb, lt-leb, not-false}
-use Rattle.digits.specs.Digits.{allDigits, numberOf}
+use Rattle.digits.specs.Digits.{admitted, allDigits, numberOf}
+use Rattle.digits.proofs.Inverse.{rules}
 use Rattle.frames.specs.Frame.{contentIn}
 use Rattle.kinds.specs.declared.Held.{Held}
 use Rattle.kinds.specs.declared.Kind.{Kind}
@@ -27,24 +28,24 @@ use Rattle.messages.specs.Asked.{notDigits, wrongLength, wrongProgram, c
 abbrev pub pick : Bool → Bool → Bool → Bool → Bool → Bool → Bool → ℕ
 pick p q r s t u v = cond p 102 (cond q 103 (cond r 104 (cond s 105 (cond t 106 (cond u 107 (cond v 108 0))))))
 
-module _ (held : Held) (fitted : ℕ) (m : Message) (content : List ℕ) where
+module _ (held : Held) (fitted release : ℕ) (m : Message) (content : List ℕ) where
   abbrev pub picked : ℕ
   picked =
-      pick (notDigits m content) (wrongLength held m content) (wrongProgram m content) (countZero m content) (notHeld held m content)
+      pick (notDigits release m content) (wrongLength held m content) (wrongProgram m content) (countZero m content) (notHeld held m content)
       (wrongPattern fitted m content)
       (wrongType m content)
 
-  pub picked-rows : firstOf (askedRows held fitted (Known m) content) ≡ picked
+  pub picked-rows : firstOf (askedRows held fitted release (Known m) content) ≡ picked
   unfolding askedRows
   picked-rows = refl
 
-  pub judged-known : judged held fitted (Known m) content ≡ cond (eqb picked 0) (Order m (startIn m content) (countIn m content)) (Refused picked)
+  pub judged-known : judged held fitted release (Known m) content ≡ cond (eqb picked 0) (Order m (startIn m content) (countIn m content)) (Refused picked)
   unfolding judged askedRows
   judged-known = refl
 
   -- none of 102 to 108 is given to a content
   pub record Right : Type 0 where
-    pub digits : notDigits m content ≡ false
+    pub digits : notDigits release m content ≡ false
     pub long : wrongLength held m content ≡ false
     pub program : wrongProgram m content ≡ false
     pub some : countZero m content ≡ false
@@ -63,24 +64,24 @@ none-picked false false false false false true v e = absurd (omega arith)
 none-picked false false false false false false true e = absurd (omega arith)
 none-picked false false false false false false false e = (refl, refl, refl, refl, refl, refl, refl)
 
-module _ (held : Held) (fitted : ℕ) (m : Message) (content : List ℕ) where
-  pub right : picked held fitted m content ≡ 0 → Right held fitted m content
+module _ (held : Held) (fitted release : ℕ) (m : Message) (content : List ℕ) where
+  pub right : picked held fitted release m content ≡ 0 → Right held fitted release m content
   right e =
       let h =
-      none-picked (notDigits m content) (wrongLength held m content) (wrongProgram m content) (countZero m content) (notHeld held m content)
+      none-picked (notDigits release m content) (wrongLength held m content) (wrongProgram m content) (countZero m content) (notHeld held m content)
       (wrongPattern fitted m content)
       (wrongType m content)
       e in
       record { digits = h .0; long = h .1; program = h .2; some = h .3; held-all = h .4; pattern = h .5; type = h .6 }
 
   -- such a content is the message's order
-  pub ordered : Right held fitted m content → judged held fitted (Known m) content ≡ Order m (startIn m content) (countIn m content)
-  ordered r = judged-known held fitted m content ∙ rw (r .digits, r .long, r .program, r .some, r .held-all, r .pattern, r .type)
+  pub ordered : Right held fitted release m content → judged held fitted release (Known m) content ≡ Order m (startIn m content) (countIn m content)
+  ordered r = judged-known held fitted release m content ∙ rw (r .digits, r .long, r .program, r .some, r .held-all, r .pattern, r .type)
 
   -- the number that is given is the rows'
-  pub known-number : numberGiven (judged held fitted (Known m) content) ≡ firstOf (askedRows held fitted (Known m) content)
+  pub known-number : numberGiven (judged held fitted release (Known m) content) ≡ firstOf (askedRows held fitted release (Known m) content)
   unfolding askedRows
-  known-number = ap numberGiven (judged-known held fitted m content) ∙ go (picked held fitted m content)
+  known-number = ap numberGiven (judged-known held fitted release m content) ∙ go (picked held fitted release m content)
     where
       go : (k : ℕ) → numberGiven (cond (eqb k 0) (Order m (startIn m content) (countIn m content)) (Refused k)) ≡ k
       go k = pass (eqb k 0) refl
@@ -89,44 +90,44 @@ module _ (held : Held) (fitted : ℕ) (m : Message) (content : List ℕ) where
           pass true e = sym (eqb-true k 0 e)
           pass false e = refl
 
-pub number-judged : (held : Held) (fitted : ℕ) (n : Named) (content : List ℕ) → numberGiven (judged held fitted n content) ≡ firstOf (askedRows held fitted n content)
+pub number-judged : (held : Held) (fitted release : ℕ) (n : Named) (content : List ℕ) → numberGiven (judged held fitted release n content) ≡ firstOf (askedRows held fitted release n content)
 unfolding judged
-number-judged held fitted Unknown content = refl
-number-judged held fitted (Known m) content = known-number held fitted m content
+number-judged held fitted release Unknown content = refl
+number-judged held fitted release (Known m) content = known-number held fitted release m content
 
-unknown-some : (held : Held) (fitted : ℕ) (content : List ℕ) → judged held fitted Unknown content ≡ Refused 0 → ⊥
+unknown-some : (held : Held) (fitted release : ℕ) (content : List ℕ) → judged held fitted release Unknown content ≡ Refused 0 → ⊥
 unfolding judged askedRows
-unknown-some held fitted content e = let z : _≡_ {A = ℕ} 101 0 = cc in omega arith
+unknown-some held fitted release content e = let z : _≡_ {A = ℕ} 101 0 = cc in omega arith
 
 -- no refusal has number 0
-pub refused-some : (held : Held) (fitted : ℕ) (frame : List ℕ) → askedOf held fitted frame ≡ Refused 0 → ⊥
+pub refused-some : (held : Held) (fitted release : ℕ) (frame : List ℕ) → askedOf held fitted release frame ≡ Refused 0 → ⊥
 unfolding askedOf
-refused-some held fitted frame = go (messageOf frame)
+refused-some held fitted release frame = go (messageOf release frame)
   where
     known : (m : Message) (k : ℕ) (b : Bool) → eqb k 0 ≡ b
         → cond b (Order m (startIn m (contentIn frame)) (countIn m (contentIn frame))) (Refused k) ≡ Refused 0 → ⊥
     known m k true e f = let z : _≡_ {A = ℕ} 0 1 = cc in omega arith
     known m k false e f = let z : k ≡ 0 = cc in eqb-false k 0 e z
 
-    go : (n : Named) → judged held fitted n (contentIn frame) ≡ Refused 0 → ⊥
-    go Unknown e = unknown-some held fitted (contentIn frame) e
-    go (Known m) e = known m (picked held fitted m (contentIn frame)) (eqb (picked held fitted m (contentIn frame)) 0) refl (sym (judged-known held fitted m (contentIn frame)) ∙ e)
+    go : (n : Named) → judged held fitted release n (contentIn frame) ≡ Refused 0 → ⊥
+    go Unknown e = unknown-some held fitted release (contentIn frame) e
+    go (Known m) e = known m (picked held fitted release m (contentIn frame)) (eqb (picked held fitted release m (contentIn frame)) 0) refl (sym (judged-known held fitted release m (contentIn frame)) ∙ e)
 
 -- what an order tells of the message and the content
-pub record Told (held : Held) (fitted : ℕ) (n : Named) (content : List ℕ) (m : Message) (start count : ℕ) : Type 0 where
+pub record Told (held : Held) (fitted release : ℕ) (n : Named) (content : List ℕ) (m : Message) (start count : ℕ) : Type 0 where
   pub message : n ≡ Known m
   pub start-is : start ≡ startIn m content
   pub count-is : count ≡ countIn m content
-  pub rows : Right held fitted m content
+  pub rows : Right held fitted release m content
 
-pub told : (held : Held) (fitted : ℕ) (n : Named) (content : List ℕ) (m : Message) (start count : ℕ) → judged held fitted n content ≡ Order m start count
-    → Told held fitted n content m start count
+pub told : (held : Held) (fitted release : ℕ) (n : Named) (content : List ℕ) (m : Message) (start count : ℕ) → judged held fitted release n content ≡ Order m start count
+    → Told held fitted release n content m start count
 unfolding judged
-told held fitted Unknown content m start count e = absurd (let z : _≡_ {A = ℕ} 0 1 = cc in omega arith)
-told held fitted (Known k) content m start count e = go (eqb (picked held fitted k content) 0) refl (sym (judged-known held fitted k content) ∙ e)
+told held fitted release Unknown content m start count e = absurd (let z : _≡_ {A = ℕ} 0 1 = cc in omega arith)
+told held fitted release (Known k) content m start count e = go (eqb (picked held fitted release k content) 0) refl (sym (judged-known held fitted release k content) ∙ e)
   where
-    go : (b : Bool) → eqb (picked held fitted k content) 0 ≡ b
-        → cond b (Order k (startIn k content) (countIn k content)) (Refused (picked held fitted k content)) ≡ Order m start count → Told held fitted (Known k) content m start count
+    go : (b : Bool) → eqb (picked held fitted release k content) 0 ≡ b
+        → cond b (Order k (startIn k content) (countIn k content)) (Refused (picked held fitted release k content)) ≡ Order m start count → Told held fitted release (Known k) content m start count
     go true z f =
         let q : k ≡ m = cc in
         let s : startIn k content ≡ start = cc in
@@ -135,7 +136,7 @@ told held fitted (Known k) content m start count e = go (eqb (picked held fitted
           message = ap Known q;
           start-is = sym s ∙ ap (λ (x : Message). startIn x content) q;
           count-is = sym c ∙ ap (λ (x : Message). countIn x content) q;
-          rows = subst (λ (x : Message). Right held fitted x content) q (right held fitted k content (eqb-true _ _ z));
+          rows = subst (λ (x : Message). Right held fitted release x content) q (right held fitted release k content (eqb-true _ _ z));
         }
     go false z f = absurd (let w : _≡_ {A = ℕ} 0 1 = cc in omega arith)
 
@@ -148,11 +149,16 @@ points-digits Points e = refl
 points-digits RunBytes e = refl
 points-digits ChangeType e = refl
 
-pub written : (m : Message) (content : List ℕ) → anyBytes (m .follows) ≡ false → notDigits m content ≡ false → allDigits content ≡ true
-written m content a d = not-false _ (rw a at d)
+pub as-admitted : (release : ℕ) (m : Message) (content : List ℕ) → anyBytes (m .follows) ≡ false → notDigits release m content ≡ false
+    → admitted release content ≡ true
+as-admitted release m content a d = not-false _ (rw a at d)
 
-pub points-written : (m : Message) (content : List ℕ) → havePoints (m .follows) ≡ true → notDigits m content ≡ false → allDigits content ≡ true
-points-written m content p d = written m content (points-digits (m .follows) p) d
+pub written : (release : ℕ) (m : Message) (content : List ℕ) → anyBytes (m .follows) ≡ false → notDigits release m content ≡ false → allDigits content ≡ true
+written release m content a d = rules content .digits release (as-admitted release m content a d)
+
+pub points-written : (release : ℕ) (m : Message) (content : List ℕ) → havePoints (m .follows) ≡ true → notDigits release m content ≡ false
+    → allDigits content ≡ true
+points-written release m content p d = written release m content (points-digits (m .follows) p) d
 
 -- what a test said, of the numbers as the content writes them
 pub same-long : {b : Bool} {u u′ k k′ : ℕ} {t t′ : List ℕ} (x : Follows) → b ≡ followsRight x u k t → u ≡ u′ → k ≡ k′ → t ≡ t′ → b ≡ followsRight x u′ k′ t′
@@ -175,8 +181,8 @@ same-unlisted x e t = cc
 pub same-fills : {k k′ : ℕ} {t t′ : List ℕ} → fillsOf k′ t′ ≡ true → k ≡ k′ → t ≡ t′ → fillsOf k t ≡ true
 same-fills e k t = cc
 
-pub same-judged : {a : Asked} {n n′ : Named} {t t′ : List ℕ} (held : Held) (fitted : ℕ) → a ≡ judged held fitted n t → n ≡ n′ → t ≡ t′ → a ≡ judged held fitted n′ t′
-same-judged held fitted e n t = cc
+pub same-judged : {a : Asked} {n n′ : Named} {t t′ : List ℕ} (held : Held) (fitted release : ℕ) → a ≡ judged held fitted release n t → n ≡ n′ → t ≡ t′ → a ≡ judged held fitted release n′ t′
+same-judged held fitted release e n t = cc
 
 pub same-order : {s s′ c c′ : ℕ} (m : Message) {a : Asked} → Order m s′ c′ ≡ a → s ≡ s′ → c ≡ c′ → Order m s c ≡ a
 same-order m e s c = cc
@@ -203,38 +209,38 @@ one-digit u k t RunBytes p f = not-so p
 one-digit u k t ChangeType p f = eqb-true _ _ f
 
 -- each return of the judgement, test after test
-module _ (held : Held) (fitted : ℕ) (m : Message) (content : List ℕ) where
-  pub at-102 : notDigits m content ≡ true → Refused 102 ≡ judged held fitted (Known m) content
-  at-102 d = sym (judged-known held fitted m content ∙ rw d)
+module _ (held : Held) (fitted release : ℕ) (m : Message) (content : List ℕ) where
+  pub at-102 : notDigits release m content ≡ true → Refused 102 ≡ judged held fitted release (Known m) content
+  at-102 d = sym (judged-known held fitted release m content ∙ rw d)
 
-  module _ (d : notDigits m content ≡ false) where
-    pub too-short : length content < fieldsOf m → Refused 103 ≡ judged held fitted (Known m) content
-    too-short l = sym (judged-known held fitted m content ∙ rw (d, lt-leb _ _ l))
+  module _ (d : notDigits release m content ≡ false) where
+    pub too-short : length content < fieldsOf m → Refused 103 ≡ judged held fitted release (Known m) content
+    too-short l = sym (judged-known held fitted release m content ∙ rw (d, lt-leb _ _ l))
 
     module _ (l : fieldsOf m ≤ length content) where
       pub at-103 : followsRight (m .follows) (kindOf held (m .tag) .unit) (countIn m content) (restIn m content) ≡ false
-          → Refused 103 ≡ judged held fitted (Known m) content
-      at-103 f = sym (judged-known held fitted m content ∙ rw (d, le-leb _ _ l, f))
+          → Refused 103 ≡ judged held fitted release (Known m) content
+      at-103 f = sym (judged-known held fitted release m content ∙ rw (d, le-leb _ _ l, f))
 
       module _ (f : followsRight (m .follows) (kindOf held (m .tag) .unit) (countIn m content) (restIn m content) ≡ true) where
-        pub at-104 : (programIn m content ≡ 0 → ⊥) → Refused 104 ≡ judged held fitted (Known m) content
-        at-104 p = sym (judged-known held fitted m content ∙ rw (d, le-leb _ _ l, f, ne-eqb _ _ p))
+        pub at-104 : (programIn m content ≡ 0 → ⊥) → Refused 104 ≡ judged held fitted release (Known m) content
+        at-104 p = sym (judged-known held fitted release m content ∙ rw (d, le-leb _ _ l, f, ne-eqb _ _ p))
 
         module _ (p : programIn m content ≡ 0) where
-          pub at-105 : countZero m content ≡ true → Refused 105 ≡ judged held fitted (Known m) content
-          at-105 z = sym (judged-known held fitted m content ∙ rw (d, le-leb _ _ l, f, eq-eqb _ _ p, z))
+          pub at-105 : countZero m content ≡ true → Refused 105 ≡ judged held fitted release (Known m) content
+          at-105 z = sym (judged-known held fitted release m content ∙ rw (d, le-leb _ _ l, f, eq-eqb _ _ p, z))
 
           module _ (z : countZero m content ≡ false) where
-            pub at-106 : notHeld held m content ≡ true → Refused 106 ≡ judged held fitted (Known m) content
-            at-106 h = sym (judged-known held fitted m content ∙ rw (d, le-leb _ _ l, f, eq-eqb _ _ p, z, h))
+            pub at-106 : notHeld held m content ≡ true → Refused 106 ≡ judged held fitted release (Known m) content
+            at-106 h = sym (judged-known held fitted release m content ∙ rw (d, le-leb _ _ l, f, eq-eqb _ _ p, z, h))
 
             module _ (h : notHeld held m content ≡ false) where
-              pub at-107 : wrongPattern fitted m content ≡ true → Refused 107 ≡ judged held fitted (Known m) content
-              at-107 w = sym (judged-known held fitted m content ∙ rw (d, le-leb _ _ l, f, eq-eqb _ _ p, z, h, w))
+              pub at-107 : wrongPattern fitted m content ≡ true → Refused 107 ≡ judged held fitted release (Known m) content
+              at-107 w = sym (judged-known held fitted release m content ∙ rw (d, le-leb _ _ l, f, eq-eqb _ _ p, z, h, w))
 
               module _ (w : wrongPattern fitted m content ≡ false) where
-                pub at-108 : wrongType m content ≡ true → Refused 108 ≡ judged held fitted (Known m) content
-                at-108 t = sym (judged-known held fitted m content ∙ rw (d, le-leb _ _ l, f, eq-eqb _ _ p, z, h, w, t))
+                pub at-108 : wrongType m content ≡ true → Refused 108 ≡ judged held fitted release (Known m) content
+                at-108 t = sym (judged-known held fitted release m content ∙ rw (d, le-leb _ _ l, f, eq-eqb _ _ p, z, h, w, t))
 
-                pub at-order : wrongType m content ≡ false → Order m (startIn m content) (countIn m content) ≡ judged held fitted (Known m) content
-                at-order t = sym (judged-known held fitted m content ∙ rw (d, le-leb _ _ l, f, eq-eqb _ _ p, z, h, w, t))
+                pub at-order : wrongType m content ≡ false → Order m (startIn m content) (countIn m content) ≡ judged held fitted release (Known m) content
+                at-order t = sym (judged-known held fitted release m content ∙ rw (d, le-leb _ _ l, f, eq-eqb _ _ p, z, h, w, t))

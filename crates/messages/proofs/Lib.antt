@@ -1,3 +1,4 @@
 pub mod Judged
+pub mod Capitals
 pub mod Shapes
 pub mod Promised

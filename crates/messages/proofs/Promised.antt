@@ -7,9 +7,9 @@ use Rattle.messages.proofs.Judged.{number-judged, refused-some, told}
 
 pub judgement : EveryJudgement
 unfolding askedOf
-judgement held fitted frame =
+judgement held fitted release frame =
     record {
-      number = number-judged held fitted (messageOf frame) (contentIn frame);
-      order = λ m start count e. let t = told held fitted (messageOf frame) (contentIn frame) m start count e in (t .message, t .start-is, t .count-is);
-      refused = refused-some held fitted frame;
+      number = number-judged held fitted release (messageOf release frame) (contentIn frame);
+      order = λ m start count e. let t = told held fitted release (messageOf release frame) (contentIn frame) m start count e in (t .message, t .start-is, t .count-is);
+      refused = refused-some held fitted release frame;
     }

@@ -8,7 +8,7 @@ use native.Mathlib.Omega.{arith}
 use lib.Dec.{eqb, leb}
 use borrow.Author.Tests.{leb-true}
 use Rattle.digits.proofs.Inverse.{and-left, and-right}
-use Rattle.digits.specs.Digits.{allDigits, numberOf}
+use Rattle.digits.specs.Digits.{admitted, numberOf}
 use Rattle.frames.specs.Frame.{messageIn}
 use Rattle.kinds.specs.Kinds.{pointsTag, columnsTag, integersTag, flagsTag}
 use Rattle.table.specs.declared.Follows.the-variants.{TenBytes, AxisPattern, Points, RunBytes, ChangeType}
@@ -32,9 +32,9 @@ module _ (P : Message → Type 0) where
       go true g f = let q : k ≡ m = cc in subst P q (h .0)
       go false g f = g f
 
-  pub in-frame : (frame : List ℕ) {m : Message} → Each P messages → messageOf frame ≡ Known m → P m
+  pub in-frame : (release : ℕ) (frame : List ℕ) {m : Message} → Each P messages → messageOf release frame ≡ Known m → P m
   unfolding messageOf messageNumbered
-  in-frame frame {m} h e = go (allDigits (messageIn frame)) e
+  in-frame release frame {m} h e = go (admitted release (messageIn frame)) e
     where
       go : (b : Bool) → cond b (namedIn (numberOf (messageIn frame)) messages) Unknown ≡ Known m → P m
       go true f = found (numberOf (messageIn frame)) messages h f
@@ -80,5 +80,5 @@ shaped-row m w s =
 pub each-shaped : Each Shaped messages
 each-shaped = (shaped-row _ refl (refl, refl), (shaped-row _ refl refl, (shaped-row _ refl (refl, omega arith, omega arith), (shaped-row _ refl (refl, omega arith, omega arith), (shaped-row _ refl (inr refl, omega arith, refl), (shaped-row _ refl (inl refl, omega arith, refl), (shaped-row _ refl (refl, refl), (shaped-row _ refl ((refl, omega arith, omega arith), refl), (shaped-row _ refl (refl, omega arith, omega arith), (shaped-row _ refl (refl, omega arith, refl, refl), (shaped-row _ refl ((inr refl, omega arith, refl), refl), (shaped-row _ refl ((inl refl, omega arith, refl), refl), tt))))))))))))
 
-pub shaped : (frame : List ℕ) (m : Message) → messageOf frame ≡ Known m → Shaped m
-shaped frame m e = in-frame Shaped frame each-shaped e
+pub shaped : (release : ℕ) (frame : List ℕ) (m : Message) → messageOf release frame ≡ Known m → Shaped m
+shaped release frame m e = in-frame Shaped release frame each-shaped e

@@ -1,9 +1,9 @@
--- Document 01, "Refusal numbers, in the order tested", 101 to 107, and document 02, request a, 108: what a message with its content asks.
+-- Document 01, "Refusal numbers, in the order tested", 101 to 107, and document 02, requests a, 108, and l: what a message with its content asks.
 use Prim.Native.Nat.{ℕ}
 use mathlib.Core.Bool.{Bool, true, cond, not, _&&_}
 use mathlib.Core.List.{List, [], _∷_}
 use lib.Dec.{leb, eqb}
-use Rattle.digits.specs.Digits.{allDigits, numberOf}
+use Rattle.digits.specs.Digits.{admitted, numberOf}
 use Rattle.frames.specs.Frame.{contentIn}
 use Rattle.kinds.specs.declared.Held.{Held}
 use Rattle.kinds.specs.Kinds.{kindOf, holds}
@@ -15,9 +15,9 @@ use Rattle.messages.specs.declared.Asked.the-variants.{Refused, Order}
 use Rattle.messages.specs.Rows.{Row, _when_, firstOf}
 use Rattle.table.specs.Table.{messageOf, programIn, startIn, countIn, restIn, lengthRight, anyBytes, havePoints, haveType, patternsFit}
 
--- 102: "a content byte isn't a digit (not 200H)"
-abbrev pub notDigits : Message → List ℕ → Bool
-notDigits m content = not (anyBytes (m .follows)) && not (allDigits content)
+-- 102: "a content byte isn't a digit (not 200H)", as a release admits it (02, l)
+abbrev pub notDigits : ℕ → Message → List ℕ → Bool
+notDigits release m content = not (anyBytes (m .follows)) && not (admitted release content)
 
 -- 103: "content length isn't this message's"; never a 200H's, which 6 has tested (02, c)
 abbrev pub wrongLength : Held → Message → List ℕ → Bool
@@ -44,10 +44,10 @@ abbrev pub wrongType : Message → List ℕ → Bool
 wrongType m content = haveType (m .follows) && not (leb (numberOf (restIn m content)) 1)
 
 -- 101: "message unknown"; then the rows of a message that is known
-unfoldable pub askedRows : Held → ℕ → Named → List ℕ → List Row
-askedRows held fitted Unknown content = (101 when true) ∷ []
-askedRows held fitted (Known m) content =
-    (102 when (notDigits m content))
+unfoldable pub askedRows : Held → ℕ → ℕ → Named → List ℕ → List Row
+askedRows held fitted release Unknown content = (101 when true) ∷ []
+askedRows held fitted release (Known m) content =
+    (102 when (notDigits release m content))
     ∷ (103 when (wrongLength held m content))
     ∷ (104 when (wrongProgram m content))
     ∷ (105 when (countZero m content))
@@ -57,16 +57,16 @@ askedRows held fitted (Known m) content =
     ∷ []
 
 -- the refusal's number, or, where none is given, the order with its numbers
-unfoldable pub judged : Held → ℕ → Named → List ℕ → Asked
-judged held fitted Unknown content = Refused (firstOf (askedRows held fitted Unknown content))
-judged held fitted (Known m) content =
-    cond (eqb (firstOf (askedRows held fitted (Known m) content)) 0)
+unfoldable pub judged : Held → ℕ → ℕ → Named → List ℕ → Asked
+judged held fitted release Unknown content = Refused (firstOf (askedRows held fitted release Unknown content))
+judged held fitted release (Known m) content =
+    cond (eqb (firstOf (askedRows held fitted release (Known m) content)) 0)
     (Order m (startIn m content) (countIn m content))
-    (Refused (firstOf (askedRows held fitted (Known m) content)))
+    (Refused (firstOf (askedRows held fitted release (Known m) content)))
 
--- what a frame asks of a board that holds so much, with these axes fitted
-unfoldable pub askedOf : Held → ℕ → List ℕ → Asked
-askedOf held fitted frame = judged held fitted (messageOf frame) (contentIn frame)
+-- what a frame asks of a board that holds so much, with these axes fitted, under a release
+unfoldable pub askedOf : Held → ℕ → ℕ → List ℕ → Asked
+askedOf held fitted release frame = judged held fitted release (messageOf release frame) (contentIn frame)
 
 -- the number of each case: a refusal's own, and 0 for an order
 abbrev pub numberGiven : Asked → ℕ

@@ -33,12 +33,12 @@ pub enum Asked {
     },
 }
 
-// The message of a frame.
-fn message_in(frame: &[u8]) -> Named
+// The message of a frame, its ID in the digits that a release admits.
+fn message_in(release: u8, frame: &[u8]) -> Named
     requires { ⌜ 10 ≤ length (now frame) ⌝ }
-    ensures { λ r. ⌜ r ≡ messageOf (now (frame .entry)) ⌝ }
+    ensures { λ r. ⌜ r ≡ messageOf release (now (frame .entry)) ⌝ }
 {
-    let id = digits::read_field(&frame[3..6]);
+    let id = digits::read_field(release, &frame[3..6]);
     match id {
         Field::Number(k) => numbered(k),
         Field::NotDigits => Named::Unknown,
@@ -60,14 +60,14 @@ fn is_any(follows: Follows) -> bool
 }
 
 // Refusal 102, passed.
-fn is_written(m: Message, content: &[u8]) -> bool
-    ensures { λ r. ⌜ r ≡ not (notDigits m (now (content .entry))) ⌝ }
+fn is_written(release: u8, m: Message, content: &[u8]) -> bool
+    ensures { λ r. ⌜ r ≡ not (notDigits release m (now (content .entry))) ⌝ }
 {
     let follows = m.follows;
     if is_any(follows) {
         return true;
     }
-    digits::all_digits(content)
+    digits::all_admitted(release, content)
 }
 
 // Refusal 105.
@@ -92,11 +92,11 @@ fn is_beyond(m: Message, k: Kind, start: usize, count: usize) -> bool
 }
 
 // What a message with its content asks: 102 to 108 in this order, or its order.
-fn judge_content(m: Message, content: &[u8], held: Held, fitted: u8) -> Asked
+fn judge_content(m: Message, content: &[u8], held: Held, fitted: u8, release: u8) -> Asked
     requires { ⌜ Narrow m × Sound held ⌝ }
-    ensures { λ r. ⌜ r ≡ judged held fitted (Known m) (now (content .entry)) ⌝ }
+    ensures { λ r. ⌜ r ≡ judged held fitted release (Known m) (now (content .entry)) ⌝ }
 {
-    if !is_written(m, content) {
+    if !is_written(release, m, content) {
         return Asked::Refused { number: 102 };
     }
     let fields = m.program + m.start + m.count;
@@ -132,15 +132,15 @@ fn judge_content(m: Message, content: &[u8], held: Held, fitted: u8) -> Asked
     }
 }
 
-// What a frame asks of a board that holds so much, with these axes fitted.
-pub fn judge(frame: &[u8], held: Held, fitted: u8) -> Asked
+// What a frame asks of a board that holds so much, with these axes fitted, under a release.
+pub fn judge(frame: &[u8], held: Held, fitted: u8, release: u8) -> Asked
     requires { ⌜ (10 ≤ length (now frame)) × Sound held ⌝ }
-    ensures { λ r. ⌜ r ≡ askedOf held fitted (now (frame .entry)) ⌝ }
+    ensures { λ r. ⌜ r ≡ askedOf held fitted release (now (frame .entry)) ⌝ }
 {
     let rest = content(frame);
-    let named = message_in(frame);
+    let named = message_in(release, frame);
     match named {
         Named::Unknown => Asked::Refused { number: 101 },
-        Named::Known { message } => judge_content(message, rest, held, fitted),
+        Named::Known { message } => judge_content(message, rest, held, fitted, release),
     }
 }

@@ -48,7 +48,7 @@ module _ {x : Order} {frame area : List ℕ} (o : Ordered x frame area) where
   count = x .count
 
   pub content : Judged h (contentIn frame) m start count
-  content = judged-so h (o .fitted) frame m start count (o .order)
+  content = judged-so h (o .fitted) (o .release) frame m start count (o .order)
 
   pub rest-needs : Narrow m × (10 ≤ length frame) × (fieldsOf m ≤ length (contentIn frame))
   rest-needs = (content .narrow, o .frame-long, content .fields)

@@ -62,13 +62,14 @@ one (suc k) n = omega arith
 second : (a b : Bool) → a ≡ true → a && b ≡ false → b ≡ false
 second a b e f = rw e at f
 
-pub judged-so : (h : Held) (fitted : ℕ) (frame : List ℕ) (m : Message) (start count : ℕ) → askedOf h fitted frame ≡ Order m start count → Judged h (contentIn frame) m start count
+pub judged-so : (h : Held) (fitted release : ℕ) (frame : List ℕ) (m : Message) (start count : ℕ) → askedOf h fitted release frame ≡ Order m start count
+    → Judged h (contentIn frame) m start count
 unfolding askedOf
-judged-so h fitted frame m start count e =
+judged-so h fitted release frame m start count e =
     let s = contentIn frame in
-    let t = told h fitted (messageOf frame) s m start count e in
+    let t = told h fitted release (messageOf release frame) s m start count e in
     let r = t .rows in
-    let x = shaped frame m (t .message) in
+    let x = shaped release frame m (t .message) in
     let l = was-not (r .long) in
     let room : fieldsOf m ≤ length s = leb-true _ _ (and-left (leb (fieldsOf m) (length s)) (followsRight (m .follows) (kindOf h (m .tag) .unit) (countIn m s) (restIn m s)) l) in
     let f = and-right (leb (fieldsOf m) (length s)) (followsRight (m .follows) (kindOf h (m .tag) .unit) (countIn m s) (restIn m s)) l in
@@ -79,7 +80,7 @@ judged-so h fitted frame m start count e =
       count-is = t .count-is;
       fields = room;
       follows = subst (λ (k : ℕ). followsRight (m .follows) (kindOf h (m .tag) .unit) k (restIn m s) ≡ true) (sym (t .count-is)) f;
-      digits = λ a. written m s a (r .digits);
+      digits = λ a. written release m s a (r .digits);
       some = λ a. one count (λ z. eqb-false _ _ (second (leb 1 (m .count)) (eqb (countIn m s) 0) (le-leb _ _ a) (r .some)) (sym (t .count-is) ∙ z));
       held-all = λ a.
           let q = was-not (second (leb 1 (m .start)) (not (holds (kindOf h (m .tag)) (startIn m s) (countIn m s))) (le-leb _ _ a) (r .held-all)) in

@@ -24,8 +24,9 @@ kindIn o = kindOf (o .held) (o .message .tag)
 pub record Ordered (o : Order) (frame area : List ℕ) : Type 0 where
   pub sound : Sound (o .held)
   pub fitted : ℕ
+  pub release : ℕ
   pub frame-long : 10 ≤ length frame
-  pub order : askedOf (o .held) fitted frame ≡ asked.Order (o .message) (o .start) (o .count)
+  pub order : askedOf (o .held) fitted release frame ≡ asked.Order (o .message) (o .start) (o .count)
   pub area-long : 1 ≤ kindIn o .held → length area ≡ sizeOf (kindIn o)
 
 -- what it says: the reply's length, and every byte of the reply area

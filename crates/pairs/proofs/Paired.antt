@@ -8,7 +8,7 @@ use native.Mathlib.Nat.{not-suc-le-zero, le-of-suc-le-suc}
 use native.Mathlib.Numerals.{add-one}
 use lib.ListN.{length, take, drop, getD, length-append}
 use lib.Seq.{take-suc}
-use Rattle.digits.specs.Digits.{isDigit, worthOf, allDigits, numberOf, digitsOf}
+use Rattle.digits.specs.Digits.{admits, worthOf, capitals, allDigits, numberOf, digitsOf}
 use Rattle.digits.proofs.Inverse.{inverse, and-left, and-right}
 use Rattle.pairs.specs.Pairs.{bytesIn, digitsIn}
 
@@ -41,13 +41,13 @@ length-digitsIn (b ∷ s) = let h = length-digitsIn s in omega arith
 pub digitsIn-more : (s : List ℕ) (i : ℕ) → i < length s → digitsIn (take (i + 1) s) ≡ digitsIn (take i s) ++ digitsOf 2 (getD s i 0)
 digitsIn-more s i h = rw (add-one, take-suc s i 0 h, digitsIn-append)
 
--- pairs of digits, as bytes and back, are the very digits
-pub digits-back : (k : ℕ) (s : List ℕ) → length s ≡ 2 * k → allDigits s ≡ true → digitsIn (bytesIn s) ≡ s
+-- pairs of digits, as bytes and back, are the very digits in capitals
+pub digits-back : (k : ℕ) (s : List ℕ) → length s ≡ 2 * k → allDigits s ≡ true → digitsIn (bytesIn s) ≡ capitals s
 digits-back zero [] e a = refl
 digits-back zero (x ∷ s) e a = absurd (omega arith)
 digits-back (suc k) [] e a = absurd (omega arith)
 digits-back (suc k) (x ∷ []) e a = absurd (omega arith)
 digits-back (suc k) (x ∷ y ∷ s) e a =
-    let b = and-right (isDigit x) (allDigits (y ∷ s)) a in
-    let t = and-right (isDigit y) (allDigits s) b in
-    ap₂ (λ (p r : List ℕ). p ++ r) (inverse 2 .digits-of-value (x ∷ y ∷ []) refl (rw (and-left (isDigit x) (allDigits (y ∷ s)) a, and-left (isDigit y) (allDigits s) b))) (digits-back k s (omega arith) t)
+    let b = and-right (admits 2 x) (allDigits (y ∷ s)) a in
+    let t = and-right (admits 2 y) (allDigits s) b in
+    ap₂ (λ (p r : List ℕ). p ++ r) (inverse 2 .digits-of-value (x ∷ y ∷ []) refl (rw (and-left (admits 2 x) (allDigits (y ∷ s)) a, and-left (admits 2 y) (allDigits s) b))) (digits-back k s (omega arith) t)

@@ -3,6 +3,7 @@ pub mod Below
 pub mod Ones
 pub mod Filled
 pub mod Parts
+pub mod Capitals
 pub mod Measured
 pub mod Slotted
 pub mod Chained

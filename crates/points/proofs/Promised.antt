@@ -7,13 +7,14 @@ use native.Mathlib.Omega.{arith}
 use native.Mathlib.Nat.{div-add-mod'}
 use lib.Dec.{eqb}
 use lib.IntN.{pos}
-use lib.ListN.{length, take, drop, getD, length-append, length-drop, take-append-drop}
+use lib.ListN.{length, take, drop, getD, length-append, length-drop}
 use lib.Seq.{getD-at, append-snoc, length-take-le, drop-drop}
 use mir.Syntax.{w32}
 use mir.Val.{SFits, Fits, toZ, ofZ}
 use mir.Facts.{toZ-ofZ, ofZ-toZ, sfits-toZ, sfits-lit}
-use Rattle.digits.specs.Digits.{digitsOf, allDigits, numberOf}
+use Rattle.digits.specs.Digits.{digitsOf, capitals, allDigits, numberOf}
 use Rattle.digits.proofs.Inverse.{inverse}
+use Rattle.digits.proofs.Capitals.{rejoined}
 use Rattle.areas.specs.Bytes.{fourOf, fourAt}
 use Rattle.points.specs.declared.units.Position.{Position}
 use Rattle.points.specs.Units.{position, acceleration, speed}
@@ -52,12 +53,12 @@ zero-slot = refl
 eight-fits : (s : List ℕ) → length s ≡ 8 → Fits w32 (numberOf s)
 eight-fits s l = record { fits = inverse 8 .bound s l }
 
--- the positions of k axes, from axis j on, fit, and their digits are the very digits
+-- the positions of k axes, from axis j on, fit, and their digits are the very digits in capitals
 abbrev Kept : ℕ → ℕ → Type 0
 Kept k p = (j : ℕ) (digits : List ℕ) (pre : List Position) → length pre ≡ j → length digits ≡ 8 * length (axesFrom k j p) → allDigits digits ≡ true
-    → AllFit (positionsOf k p digits) × (positionDigits (axesFrom k j p) (pre ++ positionsOf k p digits) ≡ digits)
+    → AllFit (positionsOf k p digits) × (positionDigits (axesFrom k j p) (pre ++ positionsOf k p digits) ≡ capitals digits)
 
-no-digits : (digits : List ℕ) → length digits ≡ 0 → [] ≡ digits
+no-digits : (digits : List ℕ) → length digits ≡ 0 → [] ≡ capitals digits
 no-digits [] e = refl
 no-digits (d ∷ digits) e = absurd (omega arith)
 
@@ -73,7 +74,7 @@ one-more k p ih j digits pre e = go (eqb (p % 2) 1)
 
     go : (b : Bool) → length digits ≡ 8 * length (cond b (j ∷ rest) rest) → allDigits digits ≡ true
         → AllFit (cond b (positionOf (take 8 digits) ∷ positionsOf k (p / 2) (drop 8 digits)) (position (pos 0) ∷ positionsOf k (p / 2) digits))
-        × (positionDigits (cond b (j ∷ rest) rest) (pre ++ cond b (positionOf (take 8 digits) ∷ positionsOf k (p / 2) (drop 8 digits)) (position (pos 0) ∷ positionsOf k (p / 2) digits)) ≡ digits)
+        × (positionDigits (cond b (j ∷ rest) rest) (pre ++ cond b (positionOf (take 8 digits) ∷ positionsOf k (p / 2) (drop 8 digits)) (position (pos 0) ∷ positionsOf k (p / 2) digits)) ≡ capitals digits)
     go true l a =
         let v = positionOf (take 8 digits) in
         let ps = positionsOf k (p / 2) (drop 8 digits) in
@@ -81,12 +82,12 @@ one-more k p ih j digits pre e = go (eqb (p % 2) 1)
         let f = eight-fits (take 8 digits) n in
         let m : length (drop 8 digits) ≡ 8 * length rest = simp length-drop (omega arith) in
         let h = ih (suc j) (drop 8 digits) (pre ++ (v ∷ [])) (next v) m (all-drop 8 digits a) in
-        let w : digitsOf 8 (ofZ w32 (getD (pre ++ (v ∷ ps)) j (position (pos 0)) .0)) ≡ take 8 digits =
+        let w : digitsOf 8 (ofZ w32 (getD (pre ++ (v ∷ ps)) j (position (pos 0)) .0)) ≡ capitals (take 8 digits) =
         ap (λ (q : Position). digitsOf 8 (ofZ w32 (q .0))) (getD-at pre v ps (position (pos 0)) j e)
         ∙ ap (digitsOf 8) (ofZ-toZ f)
         ∙ inverse 8 .digits-of-value (take 8 digits) n (all-take 8 digits a) in
-        let z : positionDigits rest (pre ++ (v ∷ ps)) ≡ drop 8 digits = ap (positionDigits rest) (sym (append-snoc pre v ps)) ∙ h .1 in
-        ((sfits-toZ f, h .0), ap₂ (λ (x y : List ℕ). x ++ y) w z ∙ take-append-drop 8 digits)
+        let z : positionDigits rest (pre ++ (v ∷ ps)) ≡ capitals (drop 8 digits) = ap (positionDigits rest) (sym (append-snoc pre v ps)) ∙ h .1 in
+        ((sfits-toZ f, h .0), ap₂ (λ (x y : List ℕ). x ++ y) w z ∙ rejoined 8 digits)
     go false l a =
         let v = position (pos 0) in
         let ps = positionsOf k (p / 2) digits in
@@ -99,9 +100,9 @@ kept zero p j digits pre e l a = (tt, no-digits digits (omega arith))
 kept (suc k) p j digits pre e l a = one-more k p (kept k (p / 2)) j digits pre e l a
 
 -- a field of digits, and what is behind it
-field-back : (n : ℕ) (s rest : List ℕ) → n ≤ length s → allDigits s ≡ true → rest ≡ drop n s → digitsOf n (numberOf (take n s)) ++ rest ≡ s
+field-back : (n : ℕ) (s rest : List ℕ) → n ≤ length s → allDigits s ≡ true → rest ≡ capitals (drop n s) → digitsOf n (numberOf (take n s)) ++ rest ≡ capitals s
 field-back n s rest h a e =
-    ap₂ (λ (x y : List ℕ). x ++ y) (inverse n .digits-of-value (take n s) (length-take-le n s h) (all-take n s a)) e ∙ take-append-drop n s
+    ap₂ (λ (x y : List ℕ). x ++ y) (inverse n .digits-of-value (take n s) (length-take-le n s h) (all-take n s a)) e ∙ rejoined n s
 
 pub every-digit : (digits : List ℕ) → EveryDigit digits
 unfolding lengthOf pointOf pointDigits axesOf
@@ -111,9 +112,9 @@ every-digit s l a =
     let h = kept 8 p 0 (drop 14 s) [] refl n (all-drop 14 s a) in
     let bound : (w at : ℕ) → at + w ≤ 14 → numberOf (take w (drop at s)) < 16 ^ w =
     λ w at k. inverse w .bound (take w (drop at s)) (length-take-le w (drop at s) (simp length-drop (omega arith))) in
-    let d4 = field-back 4 (drop 10 s) _ (simp length-drop (omega arith)) (all-drop 10 s a) (h .1 ∙ sym (drop-drop 4 10 s)) in
-    let d3 = field-back 4 (drop 6 s) _ (simp length-drop (omega arith)) (all-drop 6 s a) (d4 ∙ sym (drop-drop 4 6 s)) in
-    let d2 = field-back 4 (drop 2 s) _ (simp length-drop (omega arith)) (all-drop 2 s a) (d3 ∙ sym (drop-drop 4 2 s)) in (
+    let d4 = field-back 4 (drop 10 s) _ (simp length-drop (omega arith)) (all-drop 10 s a) (h .1 ∙ ap capitals (sym (drop-drop 4 10 s))) in
+    let d3 = field-back 4 (drop 6 s) _ (simp length-drop (omega arith)) (all-drop 6 s a) (d4 ∙ ap capitals (sym (drop-drop 4 6 s))) in
+    let d2 = field-back 4 (drop 2 s) _ (simp length-drop (omega arith)) (all-drop 2 s a) (d3 ∙ ap capitals (sym (drop-drop 4 2 s))) in (
       record {
         pattern = bound 2 0 (omega arith);
         acceleration = bound 4 2 (omega arith);

@@ -1,12 +1,12 @@
 -- The worked cases, by computing.
 use mathlib.Core.Path.{refl}
-use Rattle.digits.specs.Digits.{isDigit, worthOf, byteOf}
+use Rattle.digits.specs.Digits.{admits, worthOf, byteOf}
 use Rattle.points.specs.Axes.{axesFrom, axesOf}
 use Rattle.points.specs.Point.{positionsOf, pointOf, lengthOf, fillsOf, positionBytes, slotOf, positionDigits, pointDigits}
 use Rattle.points.specs.Cases.{Cases}
 
 pub cases : Cases
-unfolding isDigit worthOf byteOf axesFrom axesOf positionsOf pointOf lengthOf fillsOf positionBytes slotOf positionDigits pointDigits
+unfolding admits worthOf byteOf axesFrom axesOf positionsOf pointOf lengthOf fillsOf positionBytes slotOf positionDigits pointDigits
 cases =
     record {
       least = refl;

@@ -6,7 +6,7 @@ use mathlib.Core.List.{List, [], _∷_}
 use lib.ListN.{length, replicate}
 use mir.Syntax.{w32}
 use mir.Val.{SFits}
-use Rattle.digits.specs.Digits.{allDigits}
+use Rattle.digits.specs.Digits.{capitals, allDigits}
 use Rattle.points.specs.declared.units.Position.{Position}
 use Rattle.points.specs.declared.point.Point.{Point}
 use Rattle.points.specs.Point.{zeroPoint, pointOf, lengthOf, slotOf, pointIn, pointDigits}
@@ -38,6 +38,6 @@ EverySlot = (p : Point) → Fits p → Slot p
 abbrev pub ZeroSlot : Type 0
 ZeroSlot = slotOf zeroPoint ≡ replicate 40 0
 
--- Demand 2, "survive writing and reading back with every digit": digits that are one point are the very digits of the point that they write
+-- Demand 2, "survive writing and reading back with every digit": digits that are one point are, in capitals, the very digits of the point that they write (02, l)
 abbrev pub EveryDigit : List ℕ → Type 0
-EveryDigit digits = length digits ≡ lengthOf digits → allDigits digits ≡ true → Fits (pointOf digits) × (pointDigits (pointOf digits) ≡ digits)
+EveryDigit digits = length digits ≡ lengthOf digits → allDigits digits ≡ true → Fits (pointOf digits) × (pointDigits (pointOf digits) ≡ capitals digits)

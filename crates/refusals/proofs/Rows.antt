@@ -18,7 +18,7 @@ use Rattle.calls.specs.declared.Kept.{Kept}
 use Rattle.kinds.specs.declared.Lengths.{Lengths}
 use Rattle.kinds.specs.Kinds.{heldIn}
 use Rattle.calls.specs.Calls.{Call, lengthsOf}
-use Rattle.refusals.specs.Refusals.{pointsFit, variablesFit, journalFits, axesFit, areaRows, frameRows, silentRows, silentOf, refusalOf, backRows}
+use Rattle.refusals.specs.Refusals.{pointsFit, variablesFit, journalFits, axesFit, releaseFits, areaRows, frameRows, silentRows, silentOf, refusalOf, backRows}
 
 -- three rows, and what comes behind them
 abbrev pub three : ℕ → Bool → Bool → Bool → ℕ → ℕ
@@ -94,19 +94,23 @@ module _ (lengths : Lengths) (journal : List ℕ) (kept : Kept) where
   pub past-areas : AreasPass → (k : ℕ) → areaNumber k ≡ k
   past-areas p k = rw (p .points, p .columns, p .variables, p .journal-fits)
 
-module _ (station : ℕ) (frame : List ℕ) where
+module _ (release station : ℕ) (frame : List ℕ) where
   abbrev pub frameNumber : ℕ → ℕ
-  frameNumber k = three 6 (not (shaped frame)) (not (sumPasses frame)) (not (stationPasses station frame)) k
+  frameNumber k = three 6 (not (shaped frame)) (not (sumPasses release frame)) (not (stationPasses release station frame)) k
 
-  pub frame-rows : firstOf (frameRows station frame) ≡ frameNumber 0
+  pub frame-rows : firstOf (frameRows release station frame) ≡ frameNumber 0
   unfolding frameRows
   frame-rows = refl
 
+-- what comes behind the areas: the axes, the release and the frame itself
+abbrev pub ownNumber : Axes → Settings → List ℕ → ℕ → ℕ
+ownNumber axes settings frame k =
+    cond (not (axesFit axes (settings .fitted))) 5
+    (cond (not (releaseFits (settings .release))) 13 (frameNumber (settings .release) (settings .station) frame k))
+
 module _ (reply : ℕ) (frame : List ℕ) (axes : Axes) (settings : Settings) (lengths : Lengths) (journal : List ℕ) (kept : Kept) where
   abbrev pub silentNumber : ℕ → ℕ
-  silentNumber k =
-      cond (ltb reply 1024) 1
-      (areaNumber lengths journal kept (cond (not (axesFit axes (settings .fitted))) 5 (frameNumber (settings .station) frame k)))
+  silentNumber k = cond (ltb reply 1024) 1 (areaNumber lengths journal kept (ownNumber axes settings frame k))
 
   pub silent-rows : firstOf (silentRows reply frame axes settings lengths journal kept) ≡ silentNumber 0
   unfolding silentRows areaRows frameRows
@@ -117,12 +121,13 @@ module _ (reply : ℕ) (frame : List ℕ) (axes : Axes) (settings : Settings) (l
     pub reply-long : ltb reply 1024 ≡ false
     pub areas : AreasPass lengths journal kept
     pub axes-fit : axesFit axes (settings .fitted) ≡ true
+    pub release-fits : releaseFits (settings .release) ≡ true
     pub shape : shaped frame ≡ true
-    pub sum : sumPasses frame ≡ true
-    pub station : stationPasses (settings .station) frame ≡ true
+    pub sum : sumPasses (settings .release) frame ≡ true
+    pub station : stationPasses (settings .release) (settings .station) frame ≡ true
 
   pub past-silent : Passed → (k : ℕ) → silentNumber k ≡ k
-  past-silent p k = rw (p .reply-long, past-areas lengths journal kept (p .areas) (cond (not (axesFit axes (settings .fitted))) 5 (frameNumber (settings .station) frame k)), p .axes-fit, p .shape, p .sum, p .station)
+  past-silent p k = rw (p .reply-long, past-areas lengths journal kept (p .areas) (ownNumber axes settings frame k), p .axes-fit, p .release-fits, p .shape, p .sum, p .station)
 
   one-passed : (b : Bool) (n k : ℕ) → 1 ≤ n → cond b n k ≡ 0 → (b ≡ false) × (k ≡ 0)
   one-passed true n k h e = absurd (omega arith)
@@ -130,11 +135,13 @@ module _ (reply : ℕ) (frame : List ℕ) (axes : Axes) (settings : Settings) (l
 
   pub passed : {k : ℕ} → silentNumber k ≡ 0 → Passed × (k ≡ 0)
   passed {k} e =
-      let a = one-passed (ltb reply 1024) 1 (areaNumber lengths journal kept (cond (not (axesFit axes (settings .fitted))) 5 (frameNumber (settings .station) frame k))) (omega arith) e in
+      let a = one-passed (ltb reply 1024) 1 (areaNumber lengths journal kept (ownNumber axes settings frame k)) (omega arith) e in
       let b = areas-pass lengths journal kept (a .1) in
-      let c = one-passed (not (axesFit axes (settings .fitted))) 5 (frameNumber (settings .station) frame k) (omega arith) (b .1) in
-      let d = three-passed 6 (not (shaped frame)) (not (sumPasses frame)) (not (stationPasses (settings .station) frame)) k (omega arith) (c .1) in
-      (record { reply-long = a .0; areas = b .0; axes-fit = was-not (c .0); shape = was-not (d .0); sum = was-not (d .1); station = was-not (d .2) }, d .3)
+      let f = frameNumber (settings .release) (settings .station) frame k in
+      let c = one-passed (not (axesFit axes (settings .fitted))) 5 (cond (not (releaseFits (settings .release))) 13 f) (omega arith) (b .1) in
+      let r = one-passed (not (releaseFits (settings .release))) 13 f (omega arith) (c .1) in
+      let d = three-passed 6 (not (shaped frame)) (not (sumPasses (settings .release) frame)) (not (stationPasses (settings .release) (settings .station) frame)) k (omega arith) (r .1) in
+      (record { reply-long = a .0; areas = b .0; axes-fit = was-not (c .0); release-fits = was-not (r .0); shape = was-not (d .0); sum = was-not (d .1); station = was-not (d .2) }, d .3)
 
   -- where one is given it is below 101, and what comes behind is not looked at
   pub silent-given : (k : ℕ) → (silentNumber 0 ≡ 0 → ⊥) → (silentNumber k ≡ silentNumber 0) × (silentNumber 0 < 101)
@@ -142,24 +149,28 @@ module _ (reply : ℕ) (frame : List ℕ) (axes : Axes) (settings : Settings) (l
       go (ltb reply 1024) (not (pointsFit (lengths .points))) (not (eqb (lengths .columns) 700)) (not (variablesFit (lengths .integers) (lengths .flags) (lengths .firsts)))
       (not (journalFits (heldIn lengths) journal (kept .used)))
       (not (axesFit axes (settings .fitted)))
+      (not (releaseFits (settings .release)))
       (not (shaped frame))
-      (not (sumPasses frame))
-      (not (stationPasses (settings .station) frame))
+      (not (sumPasses (settings .release) frame))
+      (not (stationPasses (settings .release) (settings .station) frame))
       h
     where
-      go : (o p q w r s t u v : Bool) → (cond o 1 (four p q w r (cond s 5 (three 6 t u v 0))) ≡ 0 → ⊥)
-          → (cond o 1 (four p q w r (cond s 5 (three 6 t u v k))) ≡ cond o 1 (four p q w r (cond s 5 (three 6 t u v 0))))
-          × (cond o 1 (four p q w r (cond s 5 (three 6 t u v 0))) < 101)
-      go true p q w r s t u v n = (refl, omega arith)
-      go false true q w r s t u v n = (refl, omega arith)
-      go false false true w r s t u v n = (refl, omega arith)
-      go false false false true r s t u v n = (refl, omega arith)
-      go false false false false true s t u v n = (refl, omega arith)
-      go false false false false false true t u v n = (refl, omega arith)
-      go false false false false false false true u v n = (refl, omega arith)
-      go false false false false false false false true v n = (refl, omega arith)
-      go false false false false false false false false true n = (refl, omega arith)
-      go false false false false false false false false false n = absurd (n refl)
+      all : (o p q w r s x t u v : Bool) → ℕ → ℕ
+      all o p q w r s x t u v n = cond o 1 (four p q w r (cond s 5 (cond x 13 (three 6 t u v n))))
+
+      go : (o p q w r s x t u v : Bool) → (all o p q w r s x t u v 0 ≡ 0 → ⊥)
+          → (all o p q w r s x t u v k ≡ all o p q w r s x t u v 0) × (all o p q w r s x t u v 0 < 101)
+      go true p q w r s x t u v n = (refl, omega arith)
+      go false true q w r s x t u v n = (refl, omega arith)
+      go false false true w r s x t u v n = (refl, omega arith)
+      go false false false true r s x t u v n = (refl, omega arith)
+      go false false false false true s x t u v n = (refl, omega arith)
+      go false false false false false true x t u v n = (refl, omega arith)
+      go false false false false false false true t u v n = (refl, omega arith)
+      go false false false false false false false true u v n = (refl, omega arith)
+      go false false false false false false false false true v n = (refl, omega arith)
+      go false false false false false false false false false true n = (refl, omega arith)
+      go false false false false false false false false false false n = absurd (n refl)
 
 -- a call's rows
 abbrev pub numberOf : Call → ℕ → ℕ
@@ -173,7 +184,7 @@ unfolding silentOf silentRows areaRows frameRows
 silent-is c = refl
 
 pub refusal-is : (c : Call)
-    → refusalOf c ≡ numberOf c (firstOf (askedRows (heldIn (lengthsOf (c .areas))) (c .sent .settings .fitted) (messageOf (c .sent .frame)) (contentIn (c .sent .frame))))
+    → refusalOf c ≡ numberOf c (firstOf (askedRows (heldIn (lengthsOf (c .areas))) (c .sent .settings .fitted) (c .sent .settings .release) (messageOf (c .sent .settings .release) (c .sent .frame)) (contentIn (c .sent .frame))))
 unfolding refusalOf silentRows areaRows frameRows
 refusal-is c = refl
 
@@ -222,7 +233,7 @@ module _ (l : Lengths) (j : List ℕ) (kept : Kept) where
     silent-1 h = sym (silent-rows reply frame axes settings l j kept ∙ rw (lt-ltb _ _ h))
 
     module _ (h : 1024 ≤ reply) where
-      behind : (k : ℕ) → areaNumber l j kept (cond (not (axesFit axes (settings .fitted))) 5 (frameNumber (settings .station) frame 0)) ≡ k → k ≡ firstOf (silentRows reply frame axes settings l j kept)
+      behind : (k : ℕ) → areaNumber l j kept (ownNumber axes settings frame 0) ≡ k → k ≡ firstOf (silentRows reply frame axes settings l j kept)
       behind k e = sym (silent-rows reply frame axes settings l j kept ∙ rw (le-ltb _ _ h) e)
 
       pub silent-area : {n : ℕ} → n ≡ firstOf (areaRows l j kept) → (n ≡ 0 → ⊥) → n ≡ firstOf (silentRows reply frame axes settings l j kept)
@@ -232,21 +243,26 @@ module _ (l : Lengths) (j : List ℕ) (kept : Kept) where
         pub silent-5 : axesFit axes (settings .fitted) ≡ false → 5 ≡ firstOf (silentRows reply frame axes settings l j kept)
         silent-5 f = behind 5 (area-past e _ ∙ rw f)
 
-        pub silent-frame : axesFit axes (settings .fitted) ≡ true → {n : ℕ} → n ≡ firstOf (frameRows (settings .station) frame) → n ≡ firstOf (silentRows reply frame axes settings l j kept)
-        silent-frame f {n} g = behind n (area-past e _ ∙ rw f (sym (g ∙ frame-rows (settings .station) frame)))
+        module _ (f : axesFit axes (settings .fitted) ≡ true) where
+          pub silent-13 : releaseFits (settings .release) ≡ false → 13 ≡ firstOf (silentRows reply frame axes settings l j kept)
+          silent-13 r = behind 13 (area-past e _ ∙ rw (f, r))
+
+          pub silent-frame : releaseFits (settings .release) ≡ true → {n : ℕ} → n ≡ firstOf (frameRows (settings .release) (settings .station) frame)
+              → n ≡ firstOf (silentRows reply frame axes settings l j kept)
+          silent-frame r {n} g = behind n (area-past e _ ∙ rw (f, r) (sym (g ∙ frame-rows (settings .release) (settings .station) frame)))
 
 -- each return of the frame's own tests
-module _ (station : ℕ) (frame : List ℕ) where
-  pub frame-6 : shaped frame ≡ false → 6 ≡ firstOf (frameRows station frame)
-  frame-6 e = sym (frame-rows station frame ∙ rw e)
+module _ (release station : ℕ) (frame : List ℕ) where
+  pub frame-6 : shaped frame ≡ false → 6 ≡ firstOf (frameRows release station frame)
+  frame-6 e = sym (frame-rows release station frame ∙ rw e)
 
   module _ (e : shaped frame ≡ true) where
-    pub frame-7 : sumPasses frame ≡ false → 7 ≡ firstOf (frameRows station frame)
-    frame-7 f = sym (frame-rows station frame ∙ rw (e, f))
+    pub frame-7 : sumPasses release frame ≡ false → 7 ≡ firstOf (frameRows release station frame)
+    frame-7 f = sym (frame-rows release station frame ∙ rw (e, f))
 
-    module _ (f : sumPasses frame ≡ true) where
-      pub frame-8 : stationPasses station frame ≡ false → 8 ≡ firstOf (frameRows station frame)
-      frame-8 g = sym (frame-rows station frame ∙ rw (e, f, g))
+    module _ (f : sumPasses release frame ≡ true) where
+      pub frame-8 : stationPasses release station frame ≡ false → 8 ≡ firstOf (frameRows release station frame)
+      frame-8 g = sym (frame-rows release station frame ∙ rw (e, f, g))
 
-      pub frame-0 : stationPasses station frame ≡ true → 0 ≡ firstOf (frameRows station frame)
-      frame-0 g = sym (frame-rows station frame ∙ rw (e, f, g))
+      pub frame-0 : stationPasses release station frame ≡ true → 0 ≡ firstOf (frameRows release station frame)
+      frame-0 g = sym (frame-rows release station frame ∙ rw (e, f, g))

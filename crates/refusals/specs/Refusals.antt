@@ -1,7 +1,7 @@
--- Document 01, "Refusal numbers, in the order tested", and document 02, requests a and c: 1 to 10 here, 101 to 108 by `askedRows` of messages. Nothing else
+-- Document 01, "Refusal numbers, in the order tested", and document 02, requests a, c and l: 1 to 10 and 13 here, 101 to 108 by `askedRows` of messages. Nothing else
 -- decides a number.
 use Prim.Native.Nat.{ℕ, _+_, _*_, _%_}
-use mathlib.Core.Bool.{Bool, true, not, _&&_}
+use mathlib.Core.Bool.{Bool, true, not, _&&_, _||_}
 use mathlib.Core.List.{List, [], _∷_, _++_}
 use lib.Dec.{ltb, leb, eqb}
 use lib.ListN.{length, take}
@@ -48,6 +48,10 @@ recordsFit (r ∷ records) = leb (r .sensor) 15 && (leb (r .error) 4095 && recor
 unfoldable pub axesFit : Axes → ℕ → Bool
 axesFit axes fitted = axes .eight && (recordsFit (axes .records) && not (eqb fitted 0))
 
+-- 13: not "a setting other than 1 or 2" (02, l)
+unfoldable pub releaseFits : ℕ → Bool
+releaseFits release = eqb release 1 || eqb release 2
+
 -- 2, 3, 10 ("tested after 3", 02, a) and 4: the areas, of a frame and of a step back
 unfoldable pub areaRows : Lengths → List ℕ → Kept → List Row
 areaRows lengths journal kept =
@@ -58,18 +62,21 @@ areaRows lengths journal kept =
     ∷ []
 
 -- 6, 7 and 8: the frame itself; "6 also covers a 200H frame of another length" (02, c)
-unfoldable pub frameRows : ℕ → List ℕ → List Row
-frameRows station frame =
+unfoldable pub frameRows : ℕ → ℕ → List ℕ → List Row
+frameRows release station frame =
     (6 when (not (shaped frame)))
-    ∷ (7 when (not (sumPasses frame)))
-    ∷ (8 when (not (stationPasses station frame)))
+    ∷ (7 when (not (sumPasses release frame)))
+    ∷ (8 when (not (stationPasses release station frame)))
     ∷ []
 
--- 1 to 8 and 10: a frame's refusals without a reply, with a reply area of so many bytes
+-- 1 to 8, 10 and 13 ("tested after 5", 02, l): a frame's refusals without a reply, with a reply area of so many bytes
 unfoldable pub silentRows : ℕ → List ℕ → Axes → Settings → Lengths → List ℕ → Kept → List Row
 silentRows reply frame axes settings lengths journal kept =
     (1 when (ltb reply 1024))
-    ∷ (areaRows lengths journal kept ++ ((5 when (not (axesFit axes (settings .fitted)))) ∷ frameRows (settings .station) frame))
+    ∷ (areaRows lengths journal kept
+    ++ ((5 when (not (axesFit axes (settings .fitted))))
+    ∷ (13 when (not (releaseFits (settings .release))))
+    ∷ frameRows (settings .release) (settings .station) frame))
 
 abbrev pub silent : Call → List Row
 silent c =
@@ -78,12 +85,13 @@ silent c =
 unfoldable pub silentOf : Call → ℕ
 silentOf c = firstOf (silent c)
 
--- a frame's refusal: 1 to 8 and 10, then 101 to 108
+-- a frame's refusal: 1 to 8, 10 and 13, then 101 to 108
 unfoldable pub refusalOf : Call → ℕ
 refusalOf c =
     firstOf
     (silent c
-    ++ askedRows (heldIn (lengthsOf (c .areas))) (c .sent .settings .fitted) (messageOf (c .sent .frame)) (contentIn (c .sent .frame)))
+    ++ askedRows (heldIn (lengthsOf (c .areas))) (c .sent .settings .fitted) (c .sent .settings .release)
+    (messageOf (c .sent .settings .release) (c .sent .frame)) (contentIn (c .sent .frame)))
 
 -- "The step back tests 2, 3, 4, then 9", and 10 after 3 (02, a)
 unfoldable pub backRows : Lengths → List ℕ → Kept → List Row

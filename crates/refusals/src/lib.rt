@@ -1,4 +1,4 @@
-// The tests behind the refusals without a reply, and the step back's (document 01, "Refusal numbers, in the order tested"; document 02, a: 10).
+// The tests behind the refusals without a reply, and the step back's (document 01, "Refusal numbers, in the order tested"; document 02, a: 10; l: 13).
 use axes::Axes;
 use axes::AxisRecord;
 use calls::Kept;
@@ -15,7 +15,7 @@ use points::point::Point;
 ghost use mathlib.Core.Path.{_≡_};
 ghost use Rattle.kinds.specs.Kinds.{Sound};
 ghost use Rattle.messages.specs.Rows.{firstOf};
-ghost use Rattle.refusals.specs.Refusals.{pointsFit, variablesFit, journalFits, recordsFit, axesFit, areaRows, frameRows, silentRows, backRows};
+ghost use Rattle.refusals.specs.Refusals.{pointsFit, variablesFit, journalFits, recordsFit, axesFit, releaseFits, areaRows, frameRows, silentRows, backRows};
 
 // Refusal 2, passed: a multiple of 40 from 40 to 60,000.
 fn fits_points(points: usize) -> bool
@@ -115,23 +115,30 @@ fn area_refusal(lengths: Lengths, journal: &[u8], kept: Kept) -> u16
     0
 }
 
+// Refusal 13, passed: release 1 or 2.
+fn fits_release(release: u8) -> bool
+    ensures { λ r. ⌜ r ≡ releaseFits release ⌝ }
+{
+    release == 1 || release == 2
+}
+
 // Tests 6, 7 and 8: the refusal, or 0.
-fn frame_refusal(frame: &[u8], station: u8) -> u16
-    ensures { λ r. ⌜ r ≡ firstOf (frameRows station (now (frame .entry))) ⌝ }
+fn frame_refusal(release: u8, station: u8, frame: &[u8]) -> u16
+    ensures { λ r. ⌜ r ≡ firstOf (frameRows release station (now (frame .entry))) ⌝ }
 {
     if !is_shaped(frame) {
         return 6;
     }
-    if !passes_sum(frame) {
+    if !passes_sum(release, frame) {
         return 7;
     }
-    if !is_ours(frame, station) {
+    if !is_ours(release, station, frame) {
         return 8;
     }
     0
 }
 
-// The refusal without a reply, 1 to 8 or 10, or 0, with a reply area of so many bytes.
+// The refusal without a reply, 1 to 8, 10 or 13, or 0, with a reply area of so many bytes.
 pub fn silent(
     reply: usize,
     frame: &[u8],
@@ -153,7 +160,10 @@ pub fn silent(
     if !fits_axes(axes, settings.fitted) {
         return 5;
     }
-    frame_refusal(frame, settings.station)
+    if !fits_release(settings.release) {
+        return 13;
+    }
+    frame_refusal(settings.release, settings.station, frame)
 }
 
 // The step back's refusal: 2, 3, 10, 4, then 9, or 0.

@@ -1,4 +1,4 @@
--- Document 01, "What the board answers" and "Each message", and document 02, request a; source document 000, sections 4-3-2 to 4-3-30: which frames
+-- Document 01, "What the board answers" and "Each message", and document 02, requests a and l; source document 000, sections 4-3-2 to 4-3-30: which frames
 -- are commands, and the fields of each.
 use Prim.Native.Nat.{ℕ, zero, suc, _+_, _*_, _≤_}
 use mathlib.Core.Bool.{Bool, true, false, cond, not, _&&_}
@@ -6,7 +6,7 @@ use mathlib.Core.List.{List, [], _∷_}
 use lib.Bits.{bitAnd}
 use lib.Dec.{leb, eqb}
 use lib.ListN.{length, take, drop}
-use Rattle.digits.specs.Digits.{allDigits, numberOf}
+use Rattle.digits.specs.Digits.{admitted, numberOf}
 use Rattle.frames.specs.Frame.{messageIn}
 use Rattle.kinds.specs.declared.Held.{Held}
 use Rattle.kinds.specs.Kinds.{pointsTag, columnsTag, integersTag, flagsTag, kindOf}
@@ -51,8 +51,9 @@ namedIn id (m ∷ ms) = cond (eqb id (m .id)) (Known m) (namedIn id ms)
 unfoldable pub messageNumbered : ℕ → Named
 messageNumbered id = namedIn id messages
 
-unfoldable pub messageOf : List ℕ → Named
-messageOf frame = cond (allDigits (messageIn frame)) (messageNumbered (numberOf (messageIn frame))) Unknown
+-- the message of a frame, its ID in the digits that a release admits (02, l)
+unfoldable pub messageOf : ℕ → List ℕ → Named
+messageOf release frame = cond (admitted release (messageIn frame)) (messageNumbered (numberOf (messageIn frame))) Unknown
 
 -- the fields of a content, and what follows them
 abbrev pub fieldsOf : Message → ℕ

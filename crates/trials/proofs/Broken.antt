@@ -78,10 +78,10 @@ record Told : Type 0 where
   second-accepted : acceptedWrite forgets once clearOne ≡ true
   two-refused : refusalOf (callOn smallest twoPoints) ≡ 0
   two-asked : asksWrite (asked (callOn smallest twoPoints)) ≡ true
-  two-known : messageOf (twoPoints .frame) ≡ Known writing
+  two-known : messageOf 1 (twoPoints .frame) ≡ Known writing
   integers-refused : refusalOf (callOn smallest twoIntegers) ≡ 0
   integers-asked : asksWrite (asked (callOn smallest twoIntegers)) ≡ true
-  integers-known : messageOf (twoIntegers .frame) ≡ Known changingIntegers
+  integers-known : messageOf 1 (twoIntegers .frame) ≡ Known changingIntegers
   second-before : (getD (behindFirst writing (callOn smallest twoPoints) smallest) 0 0 ≡ 0)
       × (getD (behindFirst changingIntegers (callOn smallest twoIntegers) smallest) 3 0 ≡ 0)
   first-due : getD (account (holding 2) smallest (twoPoints ∷ []) .points) 0 0 ≡ 1

@@ -19,7 +19,7 @@ examples =
       ten-before-four = (refl, refl, refl);
       not-listed = refl;
       by-settings = (refl, refl);
-      same-error = record { frame = refl; station = refl; held = refl; fitted = refl; heard = (refl, refl) };
+      same-error = record { frame = refl; station = refl; release = refl; held = refl; fitted = refl; heard = (refl, refl) };
       query = refl;
       test-call = refl;
       test-reply = refl;

@@ -3,7 +3,7 @@ use mathlib.Core.Path.{_≡_, refl, ap}
 use mathlib.Core.Bool.{false}
 use native.Mathlib.Omega.{arith}
 use lib.ListN.{take}
-use Rattle.digits.specs.Digits.{worthOf, byteOf}
+use Rattle.digits.specs.Digits.{worthOf, byteOf, capital}
 use Rattle.digits.specs.Text.{text}
 use Rattle.frames.specs.Frame.{normal, replyOf}
 use Rattle.points.specs.Axes.{axesFrom, axesOf}
@@ -22,9 +22,9 @@ use Rattle.demands.proofs.Survived.{every-digit-survives}
 
 host : Host (codeCall .sent)
 unfolding a-call
-host = record { reply-long = omega arith; axes-fit = refl; station-byte = omega arith }
+host = record { reply-long = omega arith; axes-fit = refl; release-fits = refl; station-byte = omega arith }
 
-many-known : messageOf (manyCall .sent .frame) ≡ Known writing
+many-known : messageOf 1 (manyCall .sent .frame) ≡ Known writing
 unfolding a-call
 many-known = refl
 
@@ -36,7 +36,7 @@ abbrev many : Accepted 0x244 manyCall
 many = record { message = writing; named = refl; known = many-known; number = many-accepted; bytes = zero-bytes 32768 }
 
 many-listed : take 9 (replied (answerOf manyCall .areas) (text "!9920900102D@@\r\n")) ≡ text "#99209028"
-unfolding worthOf byteOf replyOf sent fitting lengthOf axesFrom axesOf
+unfolding worthOf byteOf capital replyOf sent fitting lengthOf axesFrom axesOf
 many-listed = ap (take 9) (every-digit-survives .next 0x244 manyCall many .points refl .listed refl .text (codeCall .sent) host false)
 
 last-read : replied (answerOf manyCall .areas) (text "!9920902D001@@\r\n") ≡ replyOf normal 0x99 (text "20900102D010000000000000000002D")

@@ -28,7 +28,7 @@ test-call-examples =
       nested = refl;
       nested-said = refl;
       areas-pass = refl;
-      heard = record { reply-long = omega arith; axes-fit = refl; station-byte = omega arith };
+      heard = record { reply-long = omega arith; axes-fit = refl; release-fits = refl; station-byte = omega arith };
       quiet = refl;
       head = record { bang = refl; station = λ e. let f : _≡_ {A = ℕ} 0x39 0x0D = ap (λ (l : List ℕ). getD l 0 0) e in omega (arith, f); id = refl };
       nineteen = refl;

@@ -9,7 +9,7 @@ use lib.Dec.{eqb}
 use lib.ListN.{length, take, drop, getD, replicate}
 use lib.Seq.{getD-take, length-take-le, take-all}
 use borrow.Author.Tests.{eq-eqb, eqb-false, le-leb}
-use Rattle.digits.specs.Digits.{worthOf, byteOf, digitsOf}
+use Rattle.digits.specs.Digits.{worthOf, byteOf, capital, capitals, digitsOf}
 use Rattle.digits.specs.Text.{text}
 use Rattle.digits.proofs.Laid.{take-laid}
 use Rattle.digits.proofs.Bools.{either}
@@ -83,15 +83,15 @@ record Told : Type 0 where
   none-number : answerOf (countOn two) .number ≡ 0
   none-text : answerOf (countOn two) .text ≡ text "#99208000BF\r\n"
   one-refused : refusalOf one-point ≡ 0
-  one-known : messageOf (one-point .sent .frame) ≡ Known writing
+  one-known : messageOf 1 (one-point .sent .frame) ≡ Known writing
   two-refused : refusalOf two-points ≡ 0
-  two-known : messageOf (two-points .sent .frame) ≡ Known writing
+  two-known : messageOf 1 (two-points .sent .frame) ≡ Known writing
   none-refused : refusalOf no-point ≡ 0
-  none-known : messageOf (no-point .sent .frame) ≡ Known clearing
+  none-known : messageOf 1 (no-point .sent .frame) ≡ Known clearing
   second-stored : getD (behindFirst writing two-points (answerOf two-points .areas)) 0 0 ≡ 1
   second-before : getD (behindFirst writing two-points two) 0 0 ≡ 0
   integers-refused : refusalOf two-integers ≡ 0
-  integers-known : messageOf (two-integers .sent .frame) ≡ Known changingIntegers
+  integers-known : messageOf 1 (two-integers .sent .frame) ≡ Known changingIntegers
   integer-stored : getD (behindFirst changingIntegers two-integers (answerOf two-integers .areas)) 3 0 ≡ 2
   integer-before : behindFirst changingIntegers two-integers two ≡ replicate 4 0
   integers-said : (startOf changingIntegers (two-integers .sent) ≡ 200) × (countOf changingIntegers (two-integers .sent) ≡ 2) × (restOf changingIntegers (two-integers .sent) ≡ text "0000000100000002")
@@ -221,7 +221,7 @@ useless =
 -- the bench's host is heard
 is-host : Host (test .sent)
 unfolding a-call
-is-host = record { reply-long = omega arith; axes-fit = refl; station-byte = omega arith }
+is-host = record { reply-long = omega arith; axes-fit = refl; release-fits = refl; station-byte = omega arith }
 
 -- a board that keeps demand 2
 module _ (board : Conduct) (d : EveryDigitSurvives board) where
@@ -283,13 +283,13 @@ module _ (board : Conduct) (d : EveryDigitSurvives board) where
 
   said-sent : board .answer (asking changed (test .sent) false (asksRun (text "20E") 201 1)) .text
       ≡ replyOf normal 0x99 (asksRun (text "20E") 201 1 ++ text "00000002")
-  unfolding kindOf
+  unfolding kindOf capital
   said-sent =
       let r = d .next 0x24C two-integers is-integers .integers refl .any-run 201 1 (omega arith) (omega arith) second-held in
       let v = told .integers-said in
       let e : digitsFrom 4 201 201 1 (r .digits) ≡ digitsFrom 4 200 201 1 (text "0000000100000002") =
       r .in-place 201 1 (omega (arith, v .0)) (omega (arith, v .0, v .1)) (omega arith) (omega arith) refl
-      ∙ ap₂ (λ (x : ℕ) (y : List ℕ). digitsFrom 4 x 201 1 y) (v .0) (v .2) in
+      ∙ ap₂ (λ (x : ℕ) (y : List ℕ). digitsFrom 4 x 201 1 (capitals y)) (v .0) (v .2) in
       let f : r .digits ≡ text "00000002" = sym (take-all 8 (r .digits) (omega (arith, r .as-many))) ∙ e in
       r .says .text (test .sent) is-host false ∙ ap (λ (x : List ℕ). replyOf normal 0x99 (asksRun (text "20E") 201 1 ++ x)) f
 
@@ -362,7 +362,7 @@ module _ (m : Message) (c : Call) (t : Took m c) (w : writes (m .does) ≡ true)
 
 stays : (id : ℕ) (r : Message) → messageNumbered id ≡ Known r → writes (r .does) ≡ true → StoresFirst id (storesFirst id .answer)
 stays id r n w c a =
-    let e = row-of (c .sent .frame) id r (a .known) (a .named) n in
+    let e = row-of (c .sent) id r (a .known) (a .named) n in
     subst (λ (x : ℕ). behindFirst (a .message) c (firstOnly x c (asked c) (answerOf c) .areas) ≡ behindFirst (a .message) c (c .areas)) (a .named)
     (behind-stays (a .message) c (is-taken c a) (ap (λ (x : Message). writes (x .does)) e ∙ w))
 

@@ -33,10 +33,18 @@ holding n = record { points = n; firsts = record { integer = 200; flag = 600 } }
 abbrev pub blank : Areas
 blank = fresh (holding 500) 32768
 
--- a frame to it with all that comes beside one, and the call that this makes
+-- a frame to a station of a cabinet release (02, l) with all that comes beside one; to the bench, release 1; and the call that this makes
+abbrev pub sendingTo : ℕ → ℕ → List ℕ → Sent
+sendingTo station release frame =
+    record {
+      frame = frame;
+      axes = eightAxes (replicate 8 zeroRecord);
+      settings = record { station = station; release = release; fitted = 0xFF };
+      reply = replicate 1024 0;
+    }
+
 abbrev pub sending : List ℕ → Sent
-sending frame =
-    record { frame = frame; axes = eightAxes (replicate 8 zeroRecord); settings = record { station = 0x99; fitted = 0xFF }; reply = replicate 1024 0 }
+sending frame = sendingTo 0x99 1 frame
 
 abbrev pub bench : Areas → List ℕ → Call
 bench areas frame = record { sent = sending frame; areas = areas }
@@ -100,7 +108,7 @@ pub record ProvedCases : Type 0 where
   pub case8 : (answerOf (bench (columnsHolding 999 (0x41 ∷ [])) (text "!99210003E701@@\r\n")) .text ≡ text "#99210003E70141FD\r\n")
       × (answerOf (bench blank (text "!99210003E702@@\r\n")) .number ≡ 106)
   -- (9) "number 010 is point 16": a 244H at 010 sets the sixteenth slot, 40 bytes at 600, and no other; a 209H of 010 then lists it
-  pub case9 : askedOf (holding 500) 0xFF (text "!99209010001@@\r\n") ≡ Order listPoints 16 1
+  pub case9 : askedOf (holding 500) 0xFF 1 (text "!99209010001@@\r\n") ≡ Order listPoints 16 1
   pub case9-slot :
       answerOf (bench blank (text "!9924401000101001E001E00640000C350C1\r\n")) .areas .points
       ≡ replicate 600 0
@@ -120,7 +128,7 @@ pub record ProvedCases : Type 0 where
   -- (11) "empty input: nothing found"
   pub case11 : findIn [] ≡ Nothing 0
   -- (12) "start 5DC is held with N = 1,500, 5DD isn't": a 209H of the one is accepted, of the other 106
-  pub case12 : (askedOf (holding 1500) 0xFF (text "!992095DC001@@\r\n") ≡ Order listPoints 1500 1)
-      × (askedOf (holding 1500) 0xFF (text "!992095DD001@@\r\n") ≡ Refused 106)
+  pub case12 : (askedOf (holding 1500) 0xFF 1 (text "!992095DC001@@\r\n") ≡ Order listPoints 1500 1)
+      × (askedOf (holding 1500) 0xFF 1 (text "!992095DD001@@\r\n") ≡ Refused 106)
   pub case12-answered : (answerOf (bench largest (text "!992095DC001@@\r\n")) .number ≡ 0)
       × (answerOf (bench largest (text "!992095DD001@@\r\n")) .number ≡ 106)

@@ -61,12 +61,13 @@ fn number(rest: &[u8], from: usize, width: usize) -> usize
     n
 }
 
-// Which axes are fitted, then the station.
+// Which axes are fitted, then the station, then the release.
 fn settings_at(rest: &[u8], from: usize) -> Settings
     requires { ⌜ from ≤ 14 ⌝ }
 {
     Settings {
         station: byte_at(rest, from + 1),
+        release: byte_at(rest, from + 2),
         fitted: byte_at(rest, from),
     }
 }
@@ -316,11 +317,11 @@ fn board_of(rest: &[u8]) -> Board {
         columns: 700,
         integers: 400,
         flags: 300,
-        journal: number(rest, 5, 4),
+        journal: number(rest, 6, 4),
         reply: 1024,
         axes: 72,
         settings: settings_at(rest, 3),
-        firsts: firsts_at(rest, 9),
+        firsts: firsts_at(rest, 10),
         used: 0,
     }
 }
@@ -391,7 +392,7 @@ fn settle(rest: &[u8], board: Board) -> Board {
         b.used = number(rest, 1, 8);
     } else if op == 0x50 {
         b.settings = settings_at(rest, 1);
-        b.firsts = firsts_at(rest, 3);
+        b.firsts = firsts_at(rest, 4);
     } else if op == 0x52 {
         let from = within(3, rest);
         play_find(&rest[from..]);
@@ -495,12 +496,15 @@ fn play(
 fn size(rest: &[u8]) -> usize {
     let op = byte_at(rest, 0);
     if op == 0x42 {
-        return 13;
+        return 14;
     }
     if op == 0x55 {
         return 9;
     }
-    if op == 0x58 || op == 0x50 {
+    if op == 0x50 {
+        return 8;
+    }
+    if op == 0x58 {
         return 7;
     }
     if op == 0x4C {

@@ -145,11 +145,20 @@ pub fn settings(dice: &mut Dice) -> Settings {
         2 => 1 << dice.roll(AXES),
         _ => dice.between(1, 255) as u8,
     };
-    let station = match dice.roll(3) {
+    let station = match dice.roll(4) {
         0 => 0x99,
+        1 => dice.pick(&[0xAB, 0x9F, 0xF9, 0xCD, 0x0E, 0xA0]),
         _ => dice.byte(),
     };
-    Settings { fitted, station, firsts: firsts(dice) }
+    Settings { fitted, station, release: dice.pick(&[1, 2]), firsts: firsts(dice) }
+}
+
+/// A release that names no rule; any drawn one may be 1 or 2.
+pub fn wrong_release(dice: &mut Dice) -> u8 {
+    match dice.one_in(4) {
+        true => dice.byte(),
+        false => dice.pick(&[0, 3, 255]),
+    }
 }
 
 /// First numbers as on the bench, from the least to the greatest that don't run past.

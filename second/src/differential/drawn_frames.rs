@@ -2,12 +2,12 @@
 
 use super::compare::Lent;
 use super::dice::Dice;
-use super::drawn_test_calls;
+use super::{drawn_letters, drawn_test_calls};
 use crate::areas::{Kind, AXES};
 use crate::digits;
 use crate::frames::{self, LONGEST_FRAME, SHORTEST_FRAME};
 
-const MARKS: &[u8] = b"@@";
+pub const MARKS: &[u8] = b"@@";
 const ENTRY_HEAD: usize = 5;
 
 /// The fields of a command, as far as its message has them.
@@ -66,8 +66,33 @@ impl Asking {
 
 /// A frame that no refusal meets, where the areas are sound.
 pub fn good(dice: &mut Dice, lent: &Lent) -> Vec<u8> {
+    let mut frame = in_capitals(dice, lent);
+    small_where_allowed(dice, lent, &mut frame);
+    frame
+}
+
+fn in_capitals(dice: &mut Dice, lent: &Lent) -> Vec<u8> {
     let asking = asking(dice, lent);
     closed(dice, lent.settings.station, &asking.text())
+}
+
+/// Under release 2 every second frame gets small letters.
+fn small_where_allowed(dice: &mut Dice, lent: &Lent, frame: &mut [u8]) {
+    if lent.settings.release == 2 && dice.one_in(2) {
+        drawn_letters::small(dice, frame);
+    }
+}
+
+/// A frame good but for its letters: small ones under either release, a sum of capitals, or a byte
+/// beside the digits.
+pub fn odd_letters(dice: &mut Dice, lent: &Lent) -> Vec<u8> {
+    let mut frame = in_capitals(dice, lent);
+    match dice.roll(4) {
+        0 => drawn_letters::sum_of_capitals(dice, &mut frame),
+        1 => drawn_letters::beside(dice, &mut frame),
+        _ => drawn_letters::small(dice, &mut frame),
+    }
+    frame
 }
 
 /// A frame with one fault or more.
@@ -87,7 +112,8 @@ pub fn damaged(dice: &mut Dice, lent: &Lent) -> Vec<u8> {
             }
             let mut text = asking.text();
             lengthened(dice, &mut text);
-            let frame = closed(dice, lent.settings.station, &text);
+            let mut frame = closed(dice, lent.settings.station, &text);
+            small_where_allowed(dice, lent, &mut frame);
             if dice.one_in(12) {
                 return spoiled(dice, frame);
             }
@@ -108,13 +134,13 @@ fn closed(dice: &mut Dice, station: u8, text: &[u8]) -> Vec<u8> {
     frame
 }
 
-fn set_sc(frame: &mut [u8], sc: &[u8]) {
+pub fn set_sc(frame: &mut [u8], sc: &[u8]) {
     let at = frame.len() - 4;
     frame[at..at + 2].copy_from_slice(sc);
 }
 
 /// Makes the SC true again after a change before it.
-fn mend_sc(frame: &mut [u8]) {
+pub fn mend_sc(frame: &mut [u8]) {
     let sc = frames::sc(&frame[..frame.len() - 4]);
     set_sc(frame, &sc);
 }

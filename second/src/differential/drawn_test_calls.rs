@@ -5,9 +5,10 @@ use crate::frames::{self, TEST_CALL_FRAME};
 
 /// Ten bytes of any kind.
 pub fn text(dice: &mut Dice) -> Vec<u8> {
-    match dice.roll(6) {
+    match dice.roll(7) {
         0 => dice.digits(10),
         1 => dice.bytes(10),
+        5 => dice.bytes_of(b"abcdefABCDEFg`", 10),
         2 => dice.bytes_of(b"\r\n", 10),
         3 => dice.bytes_of(b"!\r\n@a0", 10),
         4 => b"\r\n".repeat(5),

@@ -2,14 +2,20 @@
 
 use super::calls::Finding;
 use super::compare::{Answer, Call, Lent};
+use super::letter_places::{of_letters, LETTER_PLACES};
 use crate::areas::{Area, Board, Kinds, Run, Settings, FLAGS, INTEGER, INTEGERS, SLOT};
 use crate::digits;
 use crate::frames::{LONGEST_FRAME, LONGEST_REPLY, SHORTEST_FRAME, TEST_CALL_FRAME};
 use crate::journal::{least_length, length_is_right};
 use crate::link::Outcome;
 
-/// Places a run must come by, besides numbers and messages.
-pub const PLACES: [&str; 60] = [
+/// All places a run must come by, besides numbers and messages.
+pub fn all() -> impl Iterator<Item = &'static str> {
+    PLACES.into_iter().chain(LETTER_PLACES)
+}
+
+/// All but those of small letters.
+const PLACES: [&str; 60] = [
     "true SC accepted",
     "'@@' accepted",
     "frame of 1,023 bytes",
@@ -73,7 +79,7 @@ pub const PLACES: [&str; 60] = [
 ];
 
 /// A place, and whether a call came by it.
-type Place = (&'static str, bool);
+pub type Place = (&'static str, bool);
 
 /// The places that one call came by; `before` and `after` are what was lent.
 pub fn reached(call: &Call, before: &Lent, after: &Lent, answer: Answer) -> Vec<&'static str> {
@@ -81,7 +87,9 @@ pub fn reached(call: &Call, before: &Lent, after: &Lent, answer: Answer) -> Vec<
     match (call, answer) {
         (Call::Answer { frame }, Answer::Answered(outcome)) => {
             places.extend(of_areas(before, outcome.number));
-            places.extend(of_frame(frame, before, after, outcome));
+            places.extend(of_letters(frame, before, outcome.number));
+            let frame = as_read(frame, before.settings.release);
+            places.extend(of_frame(&frame, before, after, outcome));
         }
         (Call::StepBack, Answer::SteppedBack(number)) => {
             places.extend(of_areas(before, number));
@@ -95,6 +103,14 @@ pub fn reached(call: &Call, before: &Lent, after: &Lent, answer: Answer) -> Vec<
         _ => {}
     }
     places.into_iter().filter(|(_, reached)| *reached).map(|(name, _)| name).collect()
+}
+
+/// The frame as a board of this release reads it: under release 2 small letters are capitals.
+pub fn as_read(frame: &[u8], release: u8) -> Vec<u8> {
+    match release {
+        2 => frame.to_ascii_uppercase(),
+        _ => frame.to_vec(),
+    }
 }
 
 /// What both calls test: lengths, first numbers, entries.

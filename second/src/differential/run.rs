@@ -90,8 +90,12 @@ impl Run<'_> {
     /// One call, or several steps back; what is accepted stays for the next.
     fn next(&mut self, lent: &mut Lent) -> Result<(), Difference> {
         match self.dice.roll(100) {
-            0..=54 => {
+            0..=48 => {
                 let frame = drawn_frames::good(&mut self.dice, lent);
+                self.make(Call::Answer { frame }, lent)
+            }
+            49..=54 => {
+                let frame = drawn_frames::odd_letters(&mut self.dice, lent);
                 self.make(Call::Answer { frame }, lent)
             }
             55..=68 => {
@@ -130,7 +134,7 @@ impl Run<'_> {
         spoil::spoil(&mut self.dice, &mut copy);
         let call = match self.dice.roll(8) {
             0..=2 => Call::StepBack,
-            3 => Call::Answer { frame: drawn_frames::damaged(&mut self.dice, lent) },
+            3 | 4 => Call::Answer { frame: drawn_frames::damaged(&mut self.dice, lent) },
             _ => Call::Answer { frame: drawn_frames::good(&mut self.dice, lent) },
         };
         self.make(call, &mut copy)

@@ -1,5 +1,5 @@
 //! Spoiled calls: wrong lengths, spoiled bytes, a spoiled used length, bad records, no fitted axis,
-//! first numbers that run past.
+//! first numbers that run past, a release that is none.
 
 use super::compare::Lent;
 use super::dice::Dice;
@@ -15,7 +15,7 @@ pub fn spoil(dice: &mut Dice, lent: &mut Lent) {
 }
 
 fn spoil_one(dice: &mut Dice, lent: &mut Lent) {
-    match dice.roll(24) {
+    match dice.roll(27) {
         0 | 1 => reply_length(dice, lent),
         2 | 3 => points_length(dice, lent),
         4 => columns_length(dice, lent),
@@ -29,6 +29,7 @@ fn spoil_one(dice: &mut Dice, lent: &mut Lent) {
         20 => flags_length(dice, lent),
         21 => lent.settings.firsts = drawn_boards::firsts_that_run_past(dice),
         22 => lent.settings.firsts = drawn_boards::firsts(dice),
+        23..=25 => lent.settings.release = drawn_boards::wrong_release(dice),
         _ => lent.settings.fitted = 0,
     }
 }
@@ -36,7 +37,7 @@ fn spoil_one(dice: &mut Dice, lent: &mut Lent) {
 /// Changes that leave the board sound: settings, records, old bytes, bytes beyond the used length.
 pub fn change(dice: &mut Dice, lent: &mut Lent) {
     let used = lent.board.used.min(lent.board.journal.len());
-    match dice.roll(11) {
+    match dice.roll(13) {
         0 => lent.settings = other_settings(dice, lent),
         1 => lent.axes = drawn_boards::axes(dice),
         2 => lent.reply = drawn_boards::reply(dice),
@@ -47,6 +48,7 @@ pub fn change(dice: &mut Dice, lent: &mut Lent) {
         7 => dice.spoil_byte(&mut lent.board.integers),
         8 => dice.spoil_byte(&mut lent.board.flags),
         9 => drawn_boards::use_flags(dice, &mut lent.board.flags),
+        10 | 11 => lent.settings.release = other_release(lent.settings.release),
         _ => dice.spoil_byte(&mut lent.reply),
     }
 }
@@ -57,6 +59,13 @@ fn other_settings(dice: &mut Dice, lent: &Lent) -> Settings {
     match lent.board.used {
         0 => drawn,
         _ => Settings { firsts: lent.settings.firsts, ..drawn },
+    }
+}
+
+fn other_release(release: u8) -> u8 {
+    match release {
+        1 => 2,
+        _ => 1,
     }
 }
 

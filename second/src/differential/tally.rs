@@ -2,13 +2,15 @@
 
 use super::calls::Finding;
 use super::compare::{Answer, Call, Lent};
-use super::places::{reached, PLACES};
+use super::letter_places::has_small_digit;
+use super::places::{self, as_read, reached};
 use std::collections::BTreeMap;
 use std::fmt;
 
 pub const MESSAGES: [&str; 12] =
     ["200", "208", "209", "20D", "20E", "210", "212", "244", "246", "24B", "24C", "24E"];
-const ANSWERS: [u16; 18] = [0, 1, 2, 3, 10, 4, 5, 6, 7, 8, 101, 102, 103, 104, 105, 106, 107, 108];
+const ANSWERS: [u16; 19] =
+    [0, 1, 2, 3, 10, 4, 5, 13, 6, 7, 8, 101, 102, 103, 104, 105, 106, 107, 108];
 const STEPS_BACK: [u16; 6] = [0, 2, 3, 10, 4, 9];
 const FINDINGS: [&str; 4] = ["a frame", "nothing", "wait", "too long"];
 
@@ -17,8 +19,9 @@ pub struct Tally {
     answers: BTreeMap<u16, usize>,
     steps_back: BTreeMap<u16, usize>,
     findings: [usize; 4],
-    /// Accepted and refused frames of each message; the last are any other.
-    messages: BTreeMap<&'static str, [usize; 2]>,
+    /// Accepted and refused frames of each message, and accepted ones with a small letter among
+    /// their digits; the last are any other.
+    messages: BTreeMap<&'static str, [usize; 3]>,
     places: BTreeMap<&'static str, usize>,
 }
 
@@ -31,8 +34,10 @@ impl Tally {
         match (call, answer) {
             (Call::Answer { frame }, Answer::Answered(outcome)) => {
                 *self.answers.entry(outcome.number).or_default() += 1;
-                let kinds = self.messages.entry(message_of(frame)).or_default();
+                let read = as_read(frame, before.settings.release);
+                let kinds = self.messages.entry(message_of(&read)).or_default();
                 kinds[usize::from(outcome.number != 0)] += 1;
+                kinds[2] += usize::from(outcome.number == 0 && has_small_digit(frame));
             }
             (_, Answer::SteppedBack(number)) => *self.steps_back.entry(number).or_default() += 1,
             (_, Answer::Received(Finding { code, .. })) => self.findings[usize::from(code)] += 1,
@@ -58,11 +63,12 @@ impl Tally {
             look(format!("finder: {name}"), count);
         }
         for message in MESSAGES {
-            let [accepted, refused] = self.messages.get(message).copied().unwrap_or([0; 2]);
+            let [accepted, refused, small] = self.messages.get(message).copied().unwrap_or([0; 3]);
             look(format!("{message}H accepted"), accepted);
             look(format!("{message}H refused"), refused);
+            look(format!("{message}H accepted with a small letter"), small);
         }
-        for place in PLACES {
+        for place in places::all() {
             look(place.to_string(), self.places.get(place).copied().unwrap_or(0));
         }
         rare
@@ -83,12 +89,13 @@ impl fmt::Display for Tally {
         for (name, count) in FINDINGS.iter().zip(self.findings) {
             writeln!(out, "  {name:<42}{count:>10}")?;
         }
-        writeln!(out, "frames by message{:>27}{:>10}", "accepted", "refused")?;
-        for (name, [accepted, refused]) in &self.messages {
-            writeln!(out, "  {name:<32}{accepted:>10}{refused:>10}")?;
+        let [accepted, refused, small] = ["accepted", "refused", "with a-f"];
+        writeln!(out, "frames by message{accepted:>17}{refused:>10}{small:>10}")?;
+        for (name, [accepted, refused, small]) in &self.messages {
+            writeln!(out, "  {name:<22}{accepted:>10}{refused:>10}{small:>10}")?;
         }
         writeln!(out, "places")?;
-        for name in PLACES {
+        for name in places::all() {
             let count = self.places.get(name).copied().unwrap_or(0);
             writeln!(out, "  {name:<42}{count:>10}")?;
         }

@@ -44,9 +44,10 @@ fn call(script: &mut Script, dice: &mut Dice, lent: &mut Lent) {
         link::step_back(&mut lent.board, lent.settings.firsts);
         return;
     }
-    let frame = match dice.one_in(3) {
-        true => drawn_frames::damaged(dice, lent),
-        false => drawn_frames::good(dice, lent),
+    let frame = match dice.roll(8) {
+        0 | 1 => drawn_frames::damaged(dice, lent),
+        2 => drawn_frames::odd_letters(dice, lent),
+        _ => drawn_frames::good(dice, lent),
     };
     script.frame(&frame);
     let Lent { board, axes, settings, reply } = lent;

@@ -5,6 +5,7 @@ mod fixed_cases;
 mod journal_cases;
 mod play;
 mod refusal_cases;
+mod release_cases;
 mod script;
 mod test_call_cases;
 mod variable_cases;
@@ -23,6 +24,7 @@ pub fn stdin() -> Vec<u8> {
     variable_cases::add(&mut script);
     variable_refusals::add(&mut script);
     test_call_cases::add(&mut script);
+    release_cases::add(&mut script);
     drawn_cases::add(&mut script);
     script.end()
 }
@@ -50,12 +52,12 @@ mod tests {
         // The product's program reads at most 131,072 bytes.
         assert!(stdin.len() < 131_072, "{} bytes", stdin.len());
         let lines = stdout.lines().count();
-        assert!((300..=1_300).contains(&lines), "{lines} lines");
+        assert!((300..=1_700).contains(&lines), "{lines} lines");
         let numbers = |letter: &str| -> BTreeSet<u16> {
             let lines = stdout.lines().filter_map(|line| line.strip_prefix(letter));
             lines.filter_map(|line| line.split(' ').next()?.parse().ok()).collect()
         };
-        assert_eq!(numbers("F "), (0..=8).chain([10]).chain(101..=108).collect());
+        assert_eq!(numbers("F "), (0..=8).chain([10, 13]).chain(101..=108).collect());
         assert_eq!(numbers("S "), BTreeSet::from([0, 2, 3, 4, 9, 10]));
         assert_eq!(numbers("R "), BTreeSet::from([0, 1, 2, 3]));
     }

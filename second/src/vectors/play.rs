@@ -71,9 +71,9 @@ impl Player<'_> {
     /// A fresh board. Whole buffers are cleared, so that nothing of another board is ever lent.
     fn board(&mut self) {
         let points = 40 * self.number(2) as usize;
-        let (fitted, station) = (self.number(1) as u8, self.number(1) as u8);
+        let [fitted, station, release] = self.three();
         let journal = self.number(4) as usize;
-        self.settings = Settings { fitted, station, firsts: self.firsts() };
+        self.settings = Settings { fitted, station, release, firsts: self.firsts() };
         for buffer in &mut self.buffers {
             buffer.fill(0);
         }
@@ -84,8 +84,13 @@ impl Player<'_> {
     }
 
     fn change_settings(&mut self) {
-        let (fitted, station) = (self.number(1) as u8, self.number(1) as u8);
-        self.settings = Settings { fitted, station, firsts: self.firsts() };
+        let [fitted, station, release] = self.three();
+        self.settings = Settings { fitted, station, release, firsts: self.firsts() };
+    }
+
+    /// Fitted axes, station and release.
+    fn three(&mut self) -> [u8; 3] {
+        std::array::from_fn(|_| self.number(1) as u8)
     }
 
     fn firsts(&mut self) -> Firsts {
@@ -217,15 +222,20 @@ mod tests {
             let count = accepted.iter().filter(|&accepted| accepted == message).count();
             assert!(count >= 5, "{message}: {count}");
         }
+        for message in ["20d", "20e", "24b", "24c", "24e"] {
+            let count = accepted.iter().filter(|&accepted| accepted == message).count();
+            assert!(count >= 2, "{message}: {count}");
+        }
     }
 
     #[test]
     fn a_small_script_by_hand() {
         let script = [
-            &b"B\x00\x01\xFF\x99\x00\x00\x02\x1C\x00\xC8\x02\x58"[..],
+            &b"B\x00\x01\xFF\x99\x01\x00\x00\x02\x1C\x00\xC8\x02\x58"[..],
             b"F\x00\x0A!99208@@\r\n",
-            b"P\x01\x98\x00\xC8\x02\x58F\x00\x0A!99208@@\r\n",
-            b"P\x01\x98\x0F\x9D\x02\x58SP\x01\x98\x00\xC8\x02\x58",
+            b"P\x01\x98\x02\x00\xC8\x02\x58F\x00\x0A!99208@@\r\n",
+            b"P\x01\x98\x00\x00\xC8\x02\x58F\x00\x0A!98208@@\r\n",
+            b"P\x01\x98\x02\x0F\x9D\x02\x58SP\x01\x98\x01\x00\xC8\x02\x58",
             b"U\x00\x00\x00\x00\x00\x00\x00\x01S",
             b"L\x00\x00\x00\x00\x00X\x02\x00\x00\x00\x00\x07S",
             b"R\x00\x03!\r\nE",
@@ -233,17 +243,18 @@ mod tests {
         .concat();
         let text = play(&script);
         let lines: Vec<&str> = text.lines().collect();
-        assert_eq!(lines.len(), 6);
+        assert_eq!(lines.len(), 7);
         assert!(lines[0].starts_with("F 0 13 0 "));
         assert_eq!(lines[0].split(' ').count(), 10);
         assert!(lines[1].starts_with("F 8 0 0 "));
         assert_eq!(lines[0].split(' ').next_back(), lines[1].split(' ').next_back());
-        assert!(lines[2].starts_with("S 10 0 "));
-        assert!(lines[3].starts_with("S 4 1 "));
-        assert_eq!(lines[3].split(' ').count(), 8);
-        assert!(lines[4].starts_with("S 2 1 00000000 "));
-        assert_ne!(lines[3].split(' ').nth(5), lines[4].split(' ').nth(5));
-        assert_eq!(lines[5], "R 0 0 3 3");
+        assert!(lines[2].starts_with("F 13 0 0 "));
+        assert!(lines[3].starts_with("S 10 0 "));
+        assert!(lines[4].starts_with("S 4 1 "));
+        assert_eq!(lines[4].split(' ').count(), 8);
+        assert!(lines[5].starts_with("S 2 1 00000000 "));
+        assert_ne!(lines[4].split(' ').nth(5), lines[5].split(' ').nth(5));
+        assert_eq!(lines[6], "R 0 0 3 3");
         assert!(text.ends_with('\n'));
     }
 }

@@ -33,7 +33,7 @@ impl Script {
     pub fn board_with(&mut self, points: u16, journal_length: u32, settings: Settings) {
         self.bytes.push(b'B');
         self.bytes.extend(points.to_be_bytes());
-        self.bytes.extend([settings.fitted, settings.station]);
+        self.bytes.extend([settings.fitted, settings.station, settings.release]);
         self.bytes.extend(journal_length.to_be_bytes());
         self.firsts(settings);
     }
@@ -67,7 +67,7 @@ impl Script {
     }
 
     pub fn settings(&mut self, settings: Settings) {
-        self.bytes.extend([b'P', settings.fitted, settings.station]);
+        self.bytes.extend([b'P', settings.fitted, settings.station, settings.release]);
         self.firsts(settings);
     }
 

@@ -49,7 +49,7 @@ enum-known-asked-2 c = search needs
 
 perform-requires : tie.Need-perform-requires
 perform-requires c κs = let g = c .before .before .before .before .before .before .before .before .before .before .before in
-    record { silent-0 = heard g; held-is = c .before .before .before .before .before .before .before .before .before .before .held-in .ensures; order = same-asked _ _ (sym (c .before .before .before .before .before .before .before .asked2 .given .1) ∙ c .before .before .before .before .before .before .before .before .before .judge .ensures) (c .before .before .before .before .before .before .before .before .before .before .held-in .ensures) }
+    record { silent-0 = heard g; held-is = c .before .before .before .before .before .before .before .before .before .before .held-in .ensures; order = same-asked _ _ _ (sym (c .before .before .before .before .before .before .before .asked2 .given .1) ∙ c .before .before .before .before .before .before .before .before .before .judge .ensures) (c .before .before .before .before .before .before .before .before .before .before .held-in .ensures) }
 
 accept-requires : tie.Need-accept-requires
 accept-requires c κs = search needs
@@ -62,7 +62,7 @@ same-length-3 c = search needs
 
 returns-2 : tie.Need-returns-2
 returns-2 c = let g = c .before .before .before .before .before .before .before .before .before in
-    answered-refused (call (start g)) _ _ _ (heard g) (same-asked _ _ (sym (c .before .before .before .before .before .asked .given .1) ∙ c .before .before .before .before .before .before .before .judge .ensures) (c .before .before .before .before .before .before .before .before .held-in .ensures)) (c .before .before .refuse .ensures .0)
+    answered-refused (call (start g)) _ _ _ (heard g) (same-asked _ _ _ (sym (c .before .before .before .before .before .asked .given .1) ∙ c .before .before .before .before .before .before .before .judge .ensures) (c .before .before .before .before .before .before .before .before .held-in .ensures)) (c .before .before .refuse .ensures .0)
     (c .before .before .refuse .ensures .1)
 
 same-length-4 : tie.Need-same-length-4

@@ -24,16 +24,16 @@ enum-known-named c = search needs
 judge-content-requires : tie.Need-judge-content-requires
 judge-content-requires c κs =
     let s = c .before .before .before .before .before .before in
-    (shaped (s .args .frame .now) _ (sym (c .before .before .before .message-in .ensures) ∙ c .before .named .given .1) .narrow, s .pre .1)
+    (shaped (s .args .release) (s .args .frame .now) _ (sym (c .before .before .before .message-in .ensures) ∙ c .before .named .given .1) .narrow, s .pre .1)
 
 returns : tie.Need-returns
 unfolding askedOf judged askedRows
-returns c = same-judged _ _ refl (sym (c .enum-told .given .1) ∙ c .before .before .message-in .ensures) refl
+returns c = same-judged _ _ _ refl (sym (c .enum-told .given .1) ∙ c .before .before .message-in .ensures) refl
 
 returns-2 : tie.Need-returns-2
 unfolding askedOf
 returns-2 c =
-    same-judged _ _ (c .judge-content .ensures) (sym (c .before .before .named .given .1) ∙ c .before .before .before .before .message-in .ensures)
+    same-judged _ _ _ (c .judge-content .ensures) (sym (c .before .before .named .given .1) ∙ c .before .before .before .before .message-in .ensures)
     (c .before .before .before .before .before .content .ensures)
 
 pub judge-spec : {M : Type 1} → statement M

@@ -26,7 +26,7 @@ abbrev text : tie.After-rest → List ℕ
 text c = start c .args .content .now
 
 -- what is known there: digits where they should be, room for the fields
-digits : (c : tie.After-rest) → notDigits (start c .args .m) (text c) ≡ false
+digits : (c : tie.After-rest) → notDigits (start c .args .release) (start c .args .m) (text c) ≡ false
 digits c = was-false refl (was-true (c .before .before .before .before .before .before .before .is-written .ensures) (c .before .before .before .before .before .before .if1 .left))
 
 room : (c : tie.After-rest) → fieldsOf (start c .args .m) ≤ length (text c)
@@ -79,7 +79,7 @@ is-written-requires c κs = search needs
 returns : tie.Need-returns
 returns c =
     let s = c .before .before .before in
-    at-102 (s .args .held) (s .args .fitted) (s .args .m) (s .args .content .now) (was-not (was-false (c .before .is-written .ensures) (c .if1 .taken)))
+    at-102 (s .args .held) (s .args .fitted) (s .args .release) (s .args .m) (s .args .content .now) (was-not (was-false (c .before .is-written .ensures) (c .if1 .taken)))
 
 add-fields : tie.Need-add-fields
 add-fields c = search needs
@@ -90,7 +90,7 @@ add-fields-2 c = search needs
 returns-2 : tie.Need-returns-2
 returns-2 c =
     let s = c .before .before .before .before .before .before in
-    too-short (s .args .held) (s .args .fitted) (s .args .m) (s .args .content .now) (was-false refl (was-true (c .before .before .before .before .is-written .ensures) (c .before .before .before .if1 .left))) (c .if2 .taken)
+    too-short (s .args .held) (s .args .fitted) (s .args .release) (s .args .m) (s .args .content .now) (was-false refl (was-true (c .before .before .before .before .is-written .ensures) (c .before .before .before .if1 .left))) (c .if2 .taken)
 
 read-numbers-requires : tie.Need-read-numbers-requires
 read-numbers-requires c κs = search needs
@@ -114,19 +114,19 @@ is-long-requires c κs =
     let n = c .before .before .read-numbers in
     let e = ap (λ (x : Kind). x .unit) (c .before .kind .ensures) in
     let p : n .result .count * c .before .kind .result .unit ≤ 65536 * 40 = let x : n .result .count ≤ 65536 = omega (arith, n .ensures .1 .1) in let y : c .before .kind .result .unit ≤ 40 = omega (arith, e, k .few-bytes) in mul-le-mul x y in
-    (omega (arith, p), λ w. rw (part-rest (text c) (fieldsOf (s .args .m))) (all-drop (fieldsOf (s .args .m)) (text c) (points-written (s .args .m) (text c) w (digits c))))
+    (omega (arith, p), λ w. rw (part-rest (text c) (fieldsOf (s .args .m))) (all-drop (fieldsOf (s .args .m)) (text c) (points-written (s .args .release) (s .args .m) (text c) w (digits c))))
 
 returns-3 : tie.Need-returns-3
 returns-3 c =
     let r = c .before .before in
     let a = start r .args in
-    at-103 (a .held) (a .fitted) (a .m) (text r) (digits r) (room r) (was-false (long (c .before)) (c .if3 .taken))
+    at-103 (a .held) (a .fitted) (a .release) (a .m) (text r) (digits r) (room r) (was-false (long (c .before)) (c .if3 .taken))
 
 returns-4 : tie.Need-returns-4
 returns-4 c =
     let r = c .before .before .before .before in
     let a = start r .args in
-    at-104 (a .held) (a .fitted) (a .m) (text r) (digits r) (room r) (was-true (long (c .before .before .before)) (c .before .before .if3 .left)) (λ p. c .if4 .taken (r .before .before .read-numbers .ensures .0 .0 ∙ p))
+    at-104 (a .held) (a .fitted) (a .release) (a .m) (text r) (digits r) (room r) (was-true (long (c .before .before .before)) (c .before .before .if3 .left)) (λ p. c .if4 .taken (r .before .before .read-numbers .ensures .0 .0 ∙ p))
 
 is-none-requires : tie.Need-is-none-requires
 is-none-requires c κs = search needs
@@ -135,7 +135,7 @@ returns-5 : tie.Need-returns-5
 returns-5 c =
     let r = c .before .before .before .before .before .before in
     let a = start r .args in
-    at-105 (a .held) (a .fitted) (a .m) (text r) (digits r) (room r) (was-true (long (c .before .before .before .before .before)) (c .before .before .before .before .if3 .left)) (sym (r .before .before .read-numbers .ensures .0 .0) ∙ c .before .before .if4 .left) (sym (none (c .before)) ∙ c .if5 .taken)
+    at-105 (a .held) (a .fitted) (a .release) (a .m) (text r) (digits r) (room r) (was-true (long (c .before .before .before .before .before)) (c .before .before .before .before .if3 .left)) (sym (r .before .before .read-numbers .ensures .0 .0) ∙ c .before .before .if4 .left) (sym (none (c .before)) ∙ c .if5 .taken)
 
 is-beyond-requires : tie.Need-is-beyond-requires
 is-beyond-requires c κs =
@@ -148,7 +148,7 @@ returns-6 : tie.Need-returns-6
 returns-6 c =
     let r = c .before .before .before .before .before .before .before .before in
     let a = start r .args in
-    at-106 (a .held) (a .fitted) (a .m) (text r) (digits r) (room r) (was-true (long (c .before .before .before .before .before .before .before)) (c .before .before .before .before .before .before .if3 .left)) (sym (r .before .before .read-numbers .ensures .0 .0) ∙ c .before .before .before .before .if4 .left) (sym (none (c .before .before .before)) ∙ c .before .before .if5 .left) (sym (beyond (c .before)) ∙ c .if6 .taken)
+    at-106 (a .held) (a .fitted) (a .release) (a .m) (text r) (digits r) (room r) (was-true (long (c .before .before .before .before .before .before .before)) (c .before .before .before .before .before .before .if3 .left)) (sym (r .before .before .read-numbers .ensures .0 .0) ∙ c .before .before .before .before .if4 .left) (sym (none (c .before .before .before)) ∙ c .before .before .if5 .left) (sym (beyond (c .before)) ∙ c .if6 .taken)
 
 is-unfit-requires : tie.Need-is-unfit-requires
 is-unfit-requires c κs = λ p.
@@ -156,7 +156,7 @@ is-unfit-requires c κs = λ p.
     let m = start r .args .m in
     let n = r .before .before .read-numbers .ensures .0 .2 in
     let t = part-rest (text r) (fieldsOf m) in (
-      rw t (all-drop (fieldsOf m) (text r) (points-written m (text r) p (digits r))),
+      rw t (all-drop (fieldsOf m) (text r) (points-written (start r .args .release) m (text r) p (digits r))),
       same-fills (filled _ _ _ (m .follows) p (was-true (long (c .before .before .before .before .before .before .before)) (c .before .before .before .before .before .before .if3 .left))) n t,
     )
 
@@ -164,7 +164,7 @@ returns-7 : tie.Need-returns-7
 returns-7 c =
     let r = c .before .before .before .before .before .before .before .before .before .before in
     let a = start r .args in
-    at-107 (a .held) (a .fitted) (a .m) (text r) (digits r) (room r) (was-true (long (c .before .before .before .before .before .before .before .before .before)) (c .before .before .before .before .before .before .before .before .if3 .left)) (sym (r .before .before .read-numbers .ensures .0 .0) ∙ c .before .before .before .before .before .before .if4 .left) (sym (none (c .before .before .before .before .before)) ∙ c .before .before .before .before .if5 .left) (sym (beyond (c .before .before .before)) ∙ c .before .before .if6 .left) (sym (unfit (c .before)) ∙ c .if7 .taken)
+    at-107 (a .held) (a .fitted) (a .release) (a .m) (text r) (digits r) (room r) (was-true (long (c .before .before .before .before .before .before .before .before .before)) (c .before .before .before .before .before .before .before .before .if3 .left)) (sym (r .before .before .read-numbers .ensures .0 .0) ∙ c .before .before .before .before .before .before .if4 .left) (sym (none (c .before .before .before .before .before)) ∙ c .before .before .before .before .if5 .left) (sym (beyond (c .before .before .before)) ∙ c .before .before .if6 .left) (sym (unfit (c .before)) ∙ c .if7 .taken)
 
 is-unlisted-requires : tie.Need-is-unlisted-requires
 is-unlisted-requires c κs = λ p.
@@ -177,14 +177,14 @@ returns-8 : tie.Need-returns-8
 returns-8 c =
     let r = c .before .before .before .before .before .before .before .before .before .before .before .before in
     let a = start r .args in
-    at-108 (a .held) (a .fitted) (a .m) (text r) (digits r) (room r) (was-true (long (c .before .before .before .before .before .before .before .before .before .before .before)) (c .before .before .before .before .before .before .before .before .before .before .if3 .left)) (sym (r .before .before .read-numbers .ensures .0 .0) ∙ c .before .before .before .before .before .before .before .before .if4 .left) (sym (none (c .before .before .before .before .before .before .before)) ∙ c .before .before .before .before .before .before .if5 .left) (sym (beyond (c .before .before .before .before .before)) ∙ c .before .before .before .before .if6 .left) (sym (unfit (c .before .before .before)) ∙ c .before .before .if7 .left) (sym (unlisted (c .before)) ∙ c .if8 .taken)
+    at-108 (a .held) (a .fitted) (a .release) (a .m) (text r) (digits r) (room r) (was-true (long (c .before .before .before .before .before .before .before .before .before .before .before)) (c .before .before .before .before .before .before .before .before .before .before .if3 .left)) (sym (r .before .before .read-numbers .ensures .0 .0) ∙ c .before .before .before .before .before .before .before .before .if4 .left) (sym (none (c .before .before .before .before .before .before .before)) ∙ c .before .before .before .before .before .before .if5 .left) (sym (beyond (c .before .before .before .before .before)) ∙ c .before .before .before .before .if6 .left) (sym (unfit (c .before .before .before)) ∙ c .before .before .if7 .left) (sym (unlisted (c .before)) ∙ c .if8 .taken)
 
 returns-9 : tie.Need-returns-9
 returns-9 c =
     let r = c .before .before .before .before .before .before .before .before .before .before .before .before in
     let a = start r .args in
     let n = r .before .before .read-numbers .ensures .0 in
-    same-order (a .m) (at-order (a .held) (a .fitted) (a .m) (text r) (digits r) (room r) (was-true (long (c .before .before .before .before .before .before .before .before .before .before .before)) (c .before .before .before .before .before .before .before .before .before .before .if3 .left)) (sym (r .before .before .read-numbers .ensures .0 .0) ∙ c .before .before .before .before .before .before .before .before .if4 .left) (sym (none (c .before .before .before .before .before .before .before)) ∙ c .before .before .before .before .before .before .if5 .left) (sym (beyond (c .before .before .before .before .before)) ∙ c .before .before .before .before .if6 .left) (sym (unfit (c .before .before .before)) ∙ c .before .before .if7 .left) (sym (unlisted (c .before)) ∙ c .if8 .left)) (n .1) (n .2)
+    same-order (a .m) (at-order (a .held) (a .fitted) (a .release) (a .m) (text r) (digits r) (room r) (was-true (long (c .before .before .before .before .before .before .before .before .before .before .before)) (c .before .before .before .before .before .before .before .before .before .before .if3 .left)) (sym (r .before .before .read-numbers .ensures .0 .0) ∙ c .before .before .before .before .before .before .before .before .if4 .left) (sym (none (c .before .before .before .before .before .before .before)) ∙ c .before .before .before .before .before .before .if5 .left) (sym (beyond (c .before .before .before .before .before)) ∙ c .before .before .before .before .if6 .left) (sym (unfit (c .before .before .before)) ∙ c .before .before .if7 .left) (sym (unlisted (c .before)) ∙ c .if8 .left)) (n .1) (n .2)
 
 pub judge-content-spec : {M : Type 1} → statement M
 judge-content-spec =

@@ -30,15 +30,17 @@ enum-told c = search needs
 returns : tie.Need-returns
 unfolding messageOf
 returns c =
-    let f = c .before .before .before .before .before .before .before .args .frame .now in
-    let e = is-number (take 3 (drop 3 f)) _ (sym (c .before .before .id .given .1) ∙ c .before .before .before .before .read-field .ensures) in
+    let a = c .before .before .before .before .before .before .before .args in
+    let f = a .frame .now in
+    let e = is-number (a .release) (take 3 (drop 3 f)) _ (sym (c .before .before .id .given .1) ∙ c .before .before .before .before .read-field .ensures) in
     rw (e .0, c .numbered .ensures, e .1)
 
 returns-2 : tie.Need-returns-2
 unfolding messageOf
 returns-2 c =
-    let f = c .before .before .before .before .before .args .frame .now in
-    rw (not-digits (take 3 (drop 3 f)) (sym (c .enum-told .given .1) ∙ c .before .before .read-field .ensures))
+    let a = c .before .before .before .before .before .args in
+    let f = a .frame .now in
+    rw (not-digits (a .release) (take 3 (drop 3 f)) (sym (c .enum-told .given .1) ∙ c .before .before .read-field .ensures))
 
 pub message-in-spec : {M : Type 1} → statement M
 message-in-spec =

@@ -1,7 +1,7 @@
 use mathlib.Core.Path.{_≡_, refl, sym, ap, _∙_}
 use native.Mathlib.Omega.{arith}
 use Rattle.digits.proofs.Bools.{was-false, was-true}
-use Rattle.refusals.proofs.Rows.{silent-1, silent-area, silent-5, silent-frame}
+use Rattle.refusals.proofs.Rows.{silent-1, silent-area, silent-5, silent-13, silent-frame}
 use borrow.Author.Needs.{needs}
 use Rattle.refusals.proofs.silent.Statement.{statement}
 use Rattle.refusals.proofs.silent.Tie as tie
@@ -19,13 +19,34 @@ fits-axes-requires : tie.Need-fits-axes-requires
 fits-axes-requires c κs = search needs
 
 returns-3 : tie.Need-returns-3
-returns-3 c = let a = c .before .before .before .before .before .before .before .args in silent-5 (a .lengths) (a .journal .now) (a .kept) (a .reply) (a .frame .now) (a .axes) (a .settings) (c .before .before .before .before .if1 .left) (sym (c .before .before .before .area-refusal .ensures) ∙ c .before .before .if2 .left) (was-false (c .before .fits-axes .ensures) (c .if3 .taken))
+returns-3 c =
+    let a = c .before .before .before .before .before .before .before .args in
+    silent-5 (a .lengths) (a .journal .now) (a .kept) (a .reply) (a .frame .now) (a .axes) (a .settings) (c .before .before .before .before .if1 .left)
+    (sym (c .before .before .before .area-refusal .ensures) ∙ c .before .before .if2 .left)
+    (was-false (c .before .fits-axes .ensures) (c .if3 .taken))
+
+fits-release-requires : tie.Need-fits-release-requires
+fits-release-requires c κs = search needs
+
+returns-4 : tie.Need-returns-4
+returns-4 c =
+    let a = c .before .before .before .before .before .before .before .before .before .args in
+    silent-13 (a .lengths) (a .journal .now) (a .kept) (a .reply) (a .frame .now) (a .axes) (a .settings) (c .before .before .before .before .before .before .if1 .left)
+    (sym (c .before .before .before .before .before .area-refusal .ensures) ∙ c .before .before .before .before .if2 .left)
+    (was-true (c .before .before .before .fits-axes .ensures) (c .before .before .if3 .left))
+    (was-false (c .before .fits-release .ensures) (c .if4 .taken))
 
 frame-refusal-requires : tie.Need-frame-refusal-requires
 frame-refusal-requires c κs = search needs
 
-returns-4 : tie.Need-returns-4
-returns-4 c = let a = c .before .before .before .before .before .before .before .before .args in silent-frame (a .lengths) (a .journal .now) (a .kept) (a .reply) (a .frame .now) (a .axes) (a .settings) (c .before .before .before .before .before .if1 .left) (sym (c .before .before .before .before .area-refusal .ensures) ∙ c .before .before .before .if2 .left) (was-true (c .before .before .fits-axes .ensures) (c .before .if3 .left)) (c .frame-refusal .ensures)
+returns-5 : tie.Need-returns-5
+returns-5 c =
+    let a = c .before .before .before .before .before .before .before .before .before .before .args in
+    silent-frame (a .lengths) (a .journal .now) (a .kept) (a .reply) (a .frame .now) (a .axes) (a .settings) (c .before .before .before .before .before .before .before .if1 .left)
+    (sym (c .before .before .before .before .before .before .area-refusal .ensures) ∙ c .before .before .before .before .before .if2 .left)
+    (was-true (c .before .before .before .before .fits-axes .ensures) (c .before .before .before .if3 .left))
+    (was-true (c .before .before .fits-release .ensures) (c .before .if4 .left))
+    (c .frame-refusal .ensures)
 
 pub silent-spec : {M : Type 1} → statement M
 silent-spec =
@@ -36,5 +57,7 @@ silent-spec =
     returns-2
     fits-axes-requires
     returns-3
+    fits-release-requires
+    returns-4
     frame-refusal-requires
-    returns-4)
+    returns-5)

@@ -16,11 +16,13 @@ enum-told c = search needs
 returns : tie.Need-returns
 returns c =
     let a = c .before .before .before .before .before .args in
-    let e = is-number (a .field .now) _ (sym (c .before .said .given .1) ∙ c .before .before .before .read-field .ensures) in
+    let e = is-number (a .release) (a .field .now) _ (sym (c .before .said .given .1) ∙ c .before .before .before .read-field .ensures) in
     rw (e .0, e .1)
 
 returns-2 : tie.Need-returns-2
-returns-2 c = rw (not-digits (c .before .before .before .before .args .field .now) (sym (c .enum-told .given .1) ∙ c .before .before .read-field .ensures))
+returns-2 c =
+    let a = c .before .before .before .before .args in
+    rw (not-digits (a .release) (a .field .now) (sym (c .enum-told .given .1) ∙ c .before .before .read-field .ensures))
 
 pub is-number-spec : {M : Type 1} → statement M
 is-number-spec =
