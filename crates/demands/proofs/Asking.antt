@@ -93,7 +93,7 @@ module _ (a : Areas) (h : Sent) (frame : List ℕ) where
   sending = callOf frame (h .axes) (h .settings) (h .reply) a
 
   -- a command of its station passes every test before a reply
-  heard-there : (asks : List ℕ) → Host h → Open a → Heard (h .settings .release) (h .settings .station) asks frame → silentOf sending ≡ 0
+  pub heard-there : (asks : List ℕ) → Host h → Open a → Heard (h .settings .release) (h .settings .station) asks frame → silentOf sending ≡ 0
   heard-there asks o p d =
       silent-is sending
       ∙ past-silent (length (h .reply)) frame (h .axes) (h .settings) (lengthsOf a) (a .journal) (a .kept)
@@ -178,7 +178,7 @@ module _ (id id′ program start count tag : ℕ) (follows : Follows) (does does
       let r = o .right in
       let n : length (take (fieldsOf sent) t) ≡ fieldsOf sent = length-take-le (fieldsOf sent) t (o .assured .fields) in
       let z : length (drop (fieldsOf sent) (take (fieldsOf sent) t)) ≡ 0 = simp length-drop (omega arith) in
-      capital.in-capitals h fitted 2 release query (take (fieldsOf sent) t) refl
+      capital.in-capitals query (take (fieldsOf sent) t) h fitted 2 release refl
       (record {
         digits = rw (all-take (fieldsOf sent) t (o .assured .digits any));
         long = rw (le-leb (fieldsOf sent) (length (take (fieldsOf sent) t)) (omega arith), eq-eqb _ 0 z);

@@ -1,5 +1,5 @@
 -- A command's fields, and that it passes a frame's own tests.
-use Prim.Native.Nat.{ℕ, _+_, _-_, _≤_, _<_, _^_}
+use Prim.Native.Nat.{ℕ, _+_, _-_, _/_, _%_, _≤_, _<_, _^_}
 use mathlib.Core.Path.{_≡_, refl, sym, ap, ap₂, _∙_}
 use mathlib.Core.Bool.{Bool, true, false, cond, not, _||_}
 use mathlib.Core.List.{List, [], _∷_, _++_, append-assoc}
@@ -8,10 +8,10 @@ use lib.Dec.{eqb}
 use lib.ListN.{length, take, drop, getD, length-append, length-drop}
 use lib.Seq.{length-take-le, take-append-le, drop-append-le, take-at, drop-at, getD-at}
 use borrow.Author.Tests.{eqb-true, eqb-false, eq-eqb, ne-eqb, le-leb}
-use Rattle.digits.specs.Digits.{admits, worthOf, digitsOf, admitted, numberOf}
+use Rattle.digits.specs.Digits.{admits, worthOf, byteOf, admitted, numberOf}
 use Rattle.digits.specs.Text.{text}
-use Rattle.digits.proofs.Inverse.{inverse, and-left, and-right}
-use Rattle.frames.specs.Frame.{CR, LF, stationIn, messageIn, contentIn, scIn, scOf, testCallFits, shaped, sumTrue, sumOff, sumPasses, stationPasses}
+use Rattle.digits.proofs.Inverse.{inverse, and-right}
+use Rattle.frames.specs.Frame.{command, CR, LF, stationIn, messageIn, contentIn, beforeSC, scIn, scOf, testCallFits, shaped, sumTrue, sumOff, sumPasses, stationPasses}
 use Rattle.frames.proofs.Bools.{or-true}
 use Rattle.frames.proofs.Promised.{closed-true, own-digits}
 use Rattle.frames.proofs.TestID.{is200, by-message}
@@ -39,67 +39,69 @@ eqb-more k n m {l} h = go (eqb n m) refl
     go true e = let q = eqb-true n m e in eq-eqb l (m + k) (omega arith)
     go false e = ne-eqb l (m + k) (λ q. eqb-false n m e (omega (arith, q)))
 
--- a frame with any two bytes as its SC
-abbrev pub framed : ℕ → List ℕ → List ℕ → List ℕ
-framed station said sc = before station said ++ (sc ++ (CR ∷ LF ∷ []))
+-- a frame with any two bytes as its station, and with any two as its SC
+abbrev pub begun : ℕ → ℕ → List ℕ → List ℕ
+begun x y said = command ∷ x ∷ y ∷ said
 
-module _ (station : ℕ) (said sc : List ℕ) (two : length sc ≡ 2) where
+abbrev pub framed : ℕ → ℕ → List ℕ → List ℕ → List ℕ
+framed x y said sc = begun x y said ++ (sc ++ (CR ∷ LF ∷ []))
+
+module _ (x y : ℕ) (said sc : List ℕ) (two : length sc ≡ 2) where
   -- it is seven bytes longer than what it says
-  pub framed-long : length (framed station said sc) ≡ length said + 7
+  pub framed-long : length (framed x y said sc) ≡ length said + 7
   framed-long = simp length-append (omega arith)
 
   -- CR LF ends it
-  pub ends : framed station said sc ≡ (before station said ++ sc) ++ (CR ∷ LF ∷ [])
-  ends = sym (append-assoc (before station said) sc (CR ∷ LF ∷ []))
+  pub ends : framed x y said sc ≡ (begun x y said ++ sc) ++ (CR ∷ LF ∷ [])
+  ends = sym (append-assoc (begun x y said) sc (CR ∷ LF ∷ []))
 
   -- what stands before CR
-  pub before-long : length (before station said ++ sc) ≡ length said + 5
+  pub before-long : length (begun x y said ++ sc) ≡ length said + 5
   before-long = simp length-append (omega arith)
 
   -- its last byte but one
-  is-CR : getD (framed station said sc) (length (framed station said sc) - 2) 0 ≡ CR
+  is-CR : getD (framed x y said sc) (length (framed x y said sc) - 2) 0 ≡ CR
   is-CR =
-      ap (λ (f : List ℕ). getD f (length (framed station said sc) - 2) 0) ends
-      ∙ getD-at (before station said ++ sc) CR (LF ∷ []) 0 (length (framed station said sc) - 2) (omega (arith, before-long, framed-long))
+      ap (λ (f : List ℕ). getD f (length (framed x y said sc) - 2) 0) ends
+      ∙ getD-at (begun x y said ++ sc) CR (LF ∷ []) 0 (length (framed x y said sc) - 2) (omega (arith, before-long, framed-long))
 
   -- its last byte
-  is-LF : getD (framed station said sc) (length (framed station said sc) - 1) 0 ≡ LF
+  is-LF : getD (framed x y said sc) (length (framed x y said sc) - 1) 0 ≡ LF
   is-LF =
-      ap (λ (f : List ℕ). getD f (length (framed station said sc) - 1) 0) (ends ∙ sym (append-assoc (before station said ++ sc) (CR ∷ []) (LF ∷ [])))
-      ∙ getD-at ((before station said ++ sc) ++ (CR ∷ [])) LF [] 0 (length (framed station said sc) - 1) (simp length-append (omega (arith, before-long, framed-long)))
+      ap (λ (f : List ℕ). getD f (length (framed x y said sc) - 1) 0) (ends ∙ sym (append-assoc (begun x y said ++ sc) (CR ∷ []) (LF ∷ [])))
+      ∙ getD-at ((begun x y said ++ sc) ++ (CR ∷ [])) LF [] 0 (length (framed x y said sc) - 1) (simp length-append (omega (arith, before-long, framed-long)))
 
   module _ (least : 3 ≤ length said) where
     -- its ID is the first three bytes of what it says
-    is-message : messageIn (framed station said sc) ≡ take 3 said
+    is-message : messageIn (framed x y said sc) ≡ take 3 said
     is-message = take-append-le 3 said (sc ++ (CR ∷ LF ∷ [])) least
 
     -- test 6: '!' first, CR LF last, 10 to 1,023 bytes, a test call of 20 (02, c)
-    test-fits : testFits said ≡ true → testCallFits (framed station said sc) ≡ true
+    test-fits : testFits said ≡ true → testCallFits (framed x y said sc) ≡ true
     test-fits fits =
-        ap₂ (λ (t n : Bool). not t || n) (by-message (framed station said sc) (take 3 said) is-message) (eqb-more 7 (length said) 13 framed-long) ∙ fits
+        ap₂ (λ (t n : Bool). not t || n) (by-message (framed x y said sc) (take 3 said) is-message) (eqb-more 7 (length said) 13 framed-long) ∙ fits
 
-    is-shaped : length said ≤ 1016 → testFits said ≡ true → shaped (framed station said sc) ≡ true
+    is-shaped : length said ≤ 1016 → testFits said ≡ true → shaped (framed x y said sc) ≡ true
     unfolding shaped
     is-shaped most fits =
         let l = framed-long in
-        rw (is-CR, is-LF, le-leb 10 (length (framed station said sc)) (omega arith), le-leb (length (framed station said sc)) 1023 (omega arith)) (test-fits fits)
+        rw (is-CR, is-LF, le-leb 10 (length (framed x y said sc)) (omega arith), le-leb (length (framed x y said sc)) 1023 (omega arith)) (test-fits fits)
 
     -- its content is the rest
-    is-content : contentIn (framed station said sc) ≡ drop 3 said
+    is-content : contentIn (framed x y said sc) ≡ drop 3 said
     is-content =
-        ap (take (length (framed station said sc) - 10)) (drop-append-le 3 said (sc ++ (CR ∷ LF ∷ [])) least)
-        ∙ take-at (drop 3 said) (sc ++ (CR ∷ LF ∷ [])) (length (framed station said sc) - 10) (simp length-drop (omega (arith, framed-long)))
+        ap (take (length (framed x y said sc) - 10)) (drop-append-le 3 said (sc ++ (CR ∷ LF ∷ [])) least)
+        ∙ take-at (drop 3 said) (sc ++ (CR ∷ LF ∷ [])) (length (framed x y said sc) - 10) (simp length-drop (omega (arith, framed-long)))
 
   -- the SC stands behind them
-  is-sc : scIn (framed station said sc) ≡ sc
+  pub is-sc : scIn (framed x y said sc) ≡ sc
   is-sc =
-      ap (take 2) (drop-at (before station said) (sc ++ (CR ∷ LF ∷ [])) (length (framed station said sc) - 4) (omega (arith, framed-long)))
+      ap (take 2) (drop-at (begun x y said) (sc ++ (CR ∷ LF ∷ [])) (length (framed x y said sc) - 4) (omega (arith, framed-long)))
       ∙ take-at sc (CR ∷ LF ∷ []) 2 two
 
--- '@@' in its place is seen as such
-off : (station : ℕ) (said : List ℕ) → sumOff (framed station said (text "@@")) ≡ true
-unfolding sumOff
-off station said = rw (is-sc station said (text "@@") refl)
+  -- before which all else stands
+  pub is-begun : beforeSC (framed x y said sc) ≡ begun x y said
+  is-begun = take-at (begun x y said) (sc ++ (CR ∷ LF ∷ [])) (length (framed x y said sc) - 4) (omega (arith, framed-long))
 
 -- a frame that passes the tests 6 to 8 of a station under a release, with what it says
 pub record Heard (release station : ℕ) (said frame : List ℕ) : Type 0 where
@@ -109,34 +111,51 @@ pub record Heard (release station : ℕ) (said frame : List ℕ) : Type 0 where
   pub message : messageIn frame ≡ take 3 said
   pub content : contentIn frame ≡ drop 3 said
 
+-- whatever its station and its SC, if they pass
+pub heard-with : (release station x y : ℕ) (said sc : List ℕ) → length sc ≡ 2 → sumPasses release (framed x y said sc) ≡ true
+    → stationPasses release station (framed x y said sc) ≡ true → 3 ≤ length said → length said ≤ 1016 → testFits said ≡ true
+    → Heard release station said (framed x y said sc)
+heard-with release station x y said sc two sum ours least most fits =
+    record {
+      has-shape = is-shaped x y said sc two least most fits;
+      has-sum = sum;
+      has-station = ours;
+      message = is-message x y said sc two least;
+      content = is-content x y said sc two least;
+    }
+
+-- the two digits of a station, as bytes
+abbrev pub high : ℕ → ℕ
+high station = byteOf (station / 16 % 16)
+
+abbrev pub low : ℕ → ℕ
+low station = byteOf (station % 16)
+
 -- test 8: the station's own two digits
-ours : (release station : ℕ) (said sc : List ℕ) → station < 256 → stationPasses release station (framed station said sc) ≡ true
+ours : (release station : ℕ) (said sc : List ℕ) → station < 256 → stationPasses release station (framed (high station) (low station) said sc) ≡ true
 unfolding stationPasses
 ours release station said sc h = own-digits release station h
+
+-- '@@' in the SC's place is seen as such
+pub off : (release x y : ℕ) (said : List ℕ) → sumPasses release (framed x y said (text "@@")) ≡ true
+unfolding sumPasses sumOff
+off release x y said = rw (is-sc x y said (text "@@") refl) (or-true (sumTrue release (framed x y said (text "@@"))))
 
 -- test 7: the SC is true, or it is '@@'
 summed : (release : ℕ) (checked : Bool) (station : ℕ) (said : List ℕ) → sumPasses release (commandOf checked station said) ≡ true
 unfolding sumPasses
 summed release true station said = rw (closed-true (before station said) release)
-summed release false station said = rw (off station said) (or-true (sumTrue release (framed station said (text "@@"))))
-
--- whatever its SC, if it passes
-heard-with : (release station : ℕ) (said sc : List ℕ) → length sc ≡ 2 → sumPasses release (framed station said sc) ≡ true → station < 256 → 3 ≤ length said
-    → length said ≤ 1016 → testFits said ≡ true → Heard release station said (framed station said sc)
-heard-with release station said sc two sum byte least most fits =
-    record {
-      has-shape = is-shaped station said sc two least most fits;
-      has-sum = sum;
-      has-station = ours release station said sc byte;
-      message = is-message station said sc two least;
-      content = is-content station said sc two least;
-    }
+summed release false station said = off release (high station) (low station) said
 
 -- a command is heard, with a true SC and with '@@'
 pub heard : (release : ℕ) (checked : Bool) (station : ℕ) (said : List ℕ) → station < 256 → 3 ≤ length said → length said ≤ 1016 → testFits said ≡ true
     → Heard release station said (commandOf checked station said)
-heard release true station said = heard-with release station said (scOf (before station said)) refl (summed release true station said)
-heard release false station said = heard-with release station said (text "@@") refl (summed release false station said)
+heard release true station said byte =
+    let sc = scOf (before station said) in
+    heard-with release station (high station) (low station) said sc refl (summed release true station said) (ours release station said sc byte)
+heard release false station said byte =
+    let sc = text "@@" in
+    heard-with release station (high station) (low station) said sc refl (summed release false station said) (ours release station said sc byte)
 
 -- a station that a frame's two digits write is a byte
 pub station-byte : (release station : ℕ) (frame : List ℕ) → 10 ≤ length frame → stationPasses release station frame ≡ true → station < 256

@@ -6,6 +6,7 @@ use Rattle.demands.proofs.Lengths.{reply-fits}
 use Rattle.demands.proofs.Histories.{every-history}
 use Rattle.demands.proofs.Survived.{every-digit-survives, heard-again}
 use Rattle.demands.proofs.TestCalls.{test-calls}
+use Rattle.demands.proofs.Releases.{releases, same-answer}
 
 pub demands : Demands
 demands =
@@ -28,6 +29,8 @@ demands =
             every-digit-survives = every-digit-survives;
             heard-again = heard-again;
             test-calls = test-calls;
+            releases = releases;
+            same-answer = same-answer;
           };
       demand3 = every-history;
     }

@@ -20,4 +20,5 @@ pub mod Listed
 pub mod Lasting
 pub mod Survived
 pub mod TestCalls
+pub mod Releases
 pub mod Demands

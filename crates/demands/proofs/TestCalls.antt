@@ -34,7 +34,7 @@ use Rattle.demands.specs.History.{ours}
 use Rattle.demands.specs.Reading.{before as beforeSC, asking, Host}
 use Rattle.demands.specs.TestCalls.{testCall, handed, toFound, Unrefused, SaidBack, EveryTestCall, OtherLength, NoErrorReply, TestCalls}
 use Rattle.demands.proofs.Refused.{answer-either, silent-low, query-changes-nothing}
-use Rattle.demands.proofs.Commands.{testFits, framed, framed-long, ends, before-long, testing, message-of, named}
+use Rattle.demands.proofs.Commands.{testFits, framed, framed-long, ends, before-long, high, low, testing, message-of, named}
 use Rattle.demands.proofs.Replied.{test-call-back}
 use Rattle.demands.proofs.Asking.{Open, TakenAs, taken-as}
 
@@ -60,10 +60,10 @@ module _ (station : ℕ) (ten sc : List ℕ) (l : length ten ≡ 10) (two : leng
   said-long = omega arith
 
   abbrev frame : List ℕ
-  frame = framed station said sc
+  frame = framed (high station) (low station) said sc
 
   frame-long : length frame ≡ 20
-  frame-long = omega (arith, framed-long station said sc two, said-long)
+  frame-long = omega (arith, framed-long (high station) (low station) said sc two, said-long)
 
   -- whatever follows: its head, by its fields (a digit of its station isn't CR), and its last two bytes
   module _ (behind : List ℕ) where
@@ -75,7 +75,7 @@ module _ (station : ℕ) (ten sc : List ℕ) (l : length ten ≡ 10) (two : leng
     last-two : lastTwo (frame ++ behind) ≡ CR ∷ LF ∷ []
     last-two =
         let e : drop 18 frame ≡ CR ∷ LF ∷ [] =
-        ap (drop 18) (ends station said sc two) ∙ drop-at (beforeSC station said ++ sc) (CR ∷ LF ∷ []) 18 (omega (arith, before-long station said sc two, said-long)) in
+        ap (drop 18) (ends (high station) (low station) said sc two) ∙ drop-at (beforeSC station said ++ sc) (CR ∷ LF ∷ []) 18 (omega (arith, before-long (high station) (low station) said sc two, said-long)) in
         ap (take 2) (drop-append-le 18 frame behind (omega (arith, frame-long)) ∙ ap (λ (l : List ℕ). l ++ behind) e)
 
 -- both SCs have two bytes
@@ -142,7 +142,7 @@ module _ (a : Areas) (o : Open a) (h : Sent) (host : Host h) (checked : Bool) (t
         }
 
 -- areas that no test refuses pass each
-opened : (a : Areas) → Unrefused a → Open a
+pub opened : (a : Areas) → Unrefused a → Open a
 opened a e = areas-pass (lengthsOf a) (a .journal) (a .kept) (sym (area-rows (lengthsOf a) (a .journal) (a .kept)) ∙ e) .0
 
 every-test-call : EveryTestCall findIn ours

@@ -4,6 +4,7 @@ use Rattle.demands.specs.Replied.{EveryReply, NormalReply, ReplyFits, Te
 use Rattle.demands.specs.History.{ours, EveryHistory}
 use Rattle.demands.specs.Survive.{HeardAgain, EveryDigitSurvives}
 use Rattle.demands.specs.TestCalls.{TestCalls}
+use Rattle.demands.specs.Releases.{Releases, SameAnswer}
 
 -- "A frame that is refused changes no point, no column and nothing in the journal, and a refusal has one number and one fixed reply, or none."; no
 -- integer and no flag either (02, a)
@@ -25,6 +26,9 @@ pub record Demand2 : Type 0 where
   pub heard-again : HeardAgain
   -- "Demand 2 reads so from here" (02, c)
   pub test-calls : TestCalls
+  -- "release 1, capitals only; release 2, either", and what release 1 accepts is answered the same (02, l)
+  pub releases : Releases ours
+  pub same-answer : SameAnswer
 
 -- "After any sequence of frames and steps back, points and columns are exactly what the accepted writes not taken back would leave"; "all four kinds"
 -- (02, a)

@@ -9,7 +9,7 @@ use native.Mathlib.Numerals.{add-one}
 use lib.ListN.{length, take, drop, getD, length-append}
 use lib.Seq.{take-suc}
 use Rattle.digits.specs.Digits.{admits, worthOf, capitals, allDigits, numberOf, digitsOf}
-use Rattle.digits.proofs.Inverse.{inverse, and-left, and-right}
+use Rattle.digits.proofs.Inverse.{inverse, rules, and-left, and-right}
 use Rattle.pairs.specs.Pairs.{bytesIn, digitsIn}
 
 pub length-bytesIn : (k : ℕ) (s : List ℕ) → length s ≡ 2 * k → length (bytesIn s) ≡ k
@@ -51,3 +51,9 @@ digits-back (suc k) (x ∷ y ∷ s) e a =
     let b = and-right (admits 2 x) (allDigits (y ∷ s)) a in
     let t = and-right (admits 2 y) (allDigits s) b in
     ap₂ (λ (p r : List ℕ). p ++ r) (inverse 2 .digits-of-value (x ∷ y ∷ []) refl (rw (and-left (admits 2 x) (allDigits (y ∷ s)) a, and-left (admits 2 y) (allDigits s) b))) (digits-back k s (omega arith) t)
+
+-- capitals make the same bytes
+pub same-bytes : (s : List ℕ) → bytesIn (capitals s) ≡ bytesIn s
+same-bytes [] = refl
+same-bytes (x ∷ []) = refl
+same-bytes (x ∷ y ∷ s) = ap₂ (λ (n : ℕ) (r : List ℕ). n ∷ r) (rules (x ∷ y ∷ []) .same-number) (same-bytes s)
