@@ -7,7 +7,7 @@ SHELL := /bin/bash
 
 STRICT := -Wall -Wextra -Werror -pedantic -Iinclude
 ARCHIVE := target/staticlib/libboard.a
-# bytes of jump tables and data that the archive may have (it has 644; a jump table of 22 digits is 88), and of read-only data of all kinds (1,380; 256 more
+# bytes of jump tables and data that the archive may have (it has 644; a jump table of 22 digits is 88), and of read-only data of all kinds (1,476; 256 more
 # would be the table)
 TABLES := 731
 READ_ONLY := 1635

@@ -2,8 +2,9 @@
  * bench_listing.c: plays document 01's bench listing through cabinet.h and compares every byte.
  *
  * The input is received in pieces of every length, found, answered, then stepped back and queried. Then
- * test calls with line ends in them are received so, and integer variables and flags are written, queried
- * and stepped back. Exits 0 where all is as the listing and the documents say, 1 at the first difference.
+ * test calls with line ends in them are received so, integer variables and flags are written, queried and
+ * stepped back, and frames in small letters are answered under each cabinet release. Exits 0 where all is
+ * as the listing and the documents say, 1 at the first difference.
  */
 #include "cabinet.h"
 
@@ -256,6 +257,64 @@ static int play_variables(void)
     return 0;
 }
 
+static int letters_failed(const char *what, uint8_t release)
+{
+    fprintf(stderr, "small letters, release %u: %s\n", (unsigned)release, what);
+    return 1;
+}
+
+/* Capitals only: one small letter in ID, station, content or SC is refused, each by its own number. */
+static int play_capitals_only(uint8_t release)
+{
+    start_fresh();
+    board.release = release;
+    if (!answers("!9A24e0012C0130@@\r\n", CABINET_REFUSED_MESSAGE, "&9A10132\r\n") ||
+        !answers("!9a208@@\r\n", CABINET_REFUSED_STATION, "") ||
+        !answers("!9A2100012c01@@\r\n", CABINET_REFUSED_DIGIT, "&9A10233\r\n") ||
+        !answers("!9A2120Fa6\r\n", CABINET_REFUSED_SC, "") || !areas_are(0))
+        return letters_failed("refusals", release);
+    if (!answers("!9A200abcdefABCD8C\r\n", CABINET_ACCEPTED, "#9A200abcdefABCD8E\r\n"))
+        return letters_failed("test call", release);
+    return 0;
+}
+
+/* Small letters too: the same are accepted, replies are in capitals, and what is stored is the value. */
+static int play_small_letters(uint8_t release)
+{
+    static const uint8_t stored[2] = {0x4A, 0x4B};
+    start_fresh();
+    board.release = release;
+    if (!answers("!9a208@@\r\n", CABINET_ACCEPTED, "#9A208000C7\r\n") ||
+        !answers("!9a20835\r\n", CABINET_REFUSED_SC, "") || /* the sum of the capitals */
+        !answers("!9A2100012c01@@\r\n", CABINET_ACCEPTED, "#9A2100012C0100F7\r\n") ||
+        !answers("!9A2100012g01@@\r\n", CABINET_REFUSED_DIGIT, "&9A10233\r\n") ||
+        !answers("!9A200abcdefABCD8C\r\n", CABINET_ACCEPTED, "#9A200abcdefABCD8E\r\n") || !areas_are(0))
+        return letters_failed("queries", release);
+    if (!answers("!9a24e0012c024a4B19\r\n", CABINET_ACCEPTED, "#9A24E48\r\n") ||
+        !is_then_zero(board.columns, sizeof board.columns, stored, sizeof stored))
+        return letters_failed("write", release);
+    board.release = CABINET_CAPITALS_ONLY;
+    if (!answers("!9A2100012C0296\r\n", CABINET_ACCEPTED, "#9A2100012C024A4B83\r\n") ||
+        !steps_back(CABINET_ACCEPTED) || !areas_are(0))
+        return letters_failed("read back and stepped back", release);
+    return 0;
+}
+
+/* A release that isn't set is 1; another than 1 and 2 is refused, and nothing is done. */
+static int play_releases(void)
+{
+    int wrong;
+    board.station = 0x9A;
+    wrong = play_capitals_only(0) || play_capitals_only(CABINET_CAPITALS_ONLY) ||
+            play_small_letters(CABINET_SMALL_LETTERS_TOO);
+    board.release = 3;
+    if (!wrong && (!answers("!9A208@@\r\n", CABINET_REFUSED_RELEASE, "") || !areas_are(0)))
+        wrong = letters_failed("refused", 3);
+    board.release = 0;
+    board.station = STATION;
+    return wrong;
+}
+
 int main(void)
 {
     size_t piece;
@@ -265,12 +324,13 @@ int main(void)
     for (piece = 1; piece < sizeof test_calls; piece++)
         if (play_test_calls(piece) != 0)
             return 1;
-    if (play_variables() != 0)
+    if (play_variables() != 0 || play_releases() != 0)
         return 1;
     printf("bench listing: every byte as document 01 has it, in pieces of 1 to %lu\n",
            (unsigned long)(sizeof input - 1));
     printf("test calls: line ends and all said back, in pieces of 1 to %lu\n",
            (unsigned long)(sizeof test_calls - 1));
     printf("integers and flags: written, queried, refused and stepped back as the documents say\n");
+    printf("small letters: refused under release 1, accepted under release 2, replied in capitals\n");
     return 0;
 }

@@ -23,6 +23,7 @@
 #include <time.h>
 
 #define STATION 0x99
+#define RELEASE CABINET_CAPITALS_ONLY
 #define FITTED 0xFF
 #define FIRST_INTEGER 200
 #define FIRST_FLAG 600
@@ -50,7 +51,7 @@ struct calls {
     uint8_t (*receive)(const uint8_t *, size_t, size_t *, size_t *, size_t *);
     uint16_t (*answer)(const uint8_t *, size_t, uint8_t *, size_t, uint8_t *, size_t, uint8_t *, size_t,
                        uint8_t *, size_t, uint8_t *, size_t, size_t *, const uint8_t *, size_t,
-                       uint8_t, uint8_t, uint16_t, uint16_t, uint8_t *, size_t, size_t *);
+                       uint8_t, uint8_t, uint8_t, uint16_t, uint16_t, uint8_t *, size_t, size_t *);
     uint16_t (*step_back)(uint8_t *, size_t, uint8_t *, size_t, uint8_t *, size_t, uint8_t *, size_t,
                           uint8_t *, size_t, size_t *, uint16_t, uint16_t);
 };
@@ -108,7 +109,7 @@ static unsigned make_call(const struct calls *calls)
                              CABINET_POINTS_BYTES(trial.held), work.columns, CABINET_COLUMNS_BYTES,
                              work.integers, CABINET_INTEGERS_BYTES, work.flags, CABINET_FLAGS_BYTES,
                              work.journal, trial.journal_length, &work.used, trial.axes,
-                             CABINET_AXES_BYTES, FITTED, STATION, FIRST_INTEGER, FIRST_FLAG,
+                             CABINET_AXES_BYTES, FITTED, STATION, RELEASE, FIRST_INTEGER, FIRST_FLAG,
                              work.reply, CABINET_REPLY_BYTES, &work.reply_length);
     if (trial.kind == STEP_BACK)
         return calls->step_back(work.points, CABINET_POINTS_BYTES(trial.held),

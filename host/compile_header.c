@@ -2,14 +2,14 @@
 #include "cabinet.h"
 #include "cabinet.h"
 
-#if CABINET_VERSION < 2
+#if CABINET_VERSION < 4
 #error "an older cabinet.h"
 #endif
 
 typedef uint8_t receive_call(const uint8_t *, size_t, size_t *, size_t *, size_t *);
 typedef uint16_t answer_call(const uint8_t *, size_t, uint8_t *, size_t, uint8_t *, size_t,
                              uint8_t *, size_t, uint8_t *, size_t, uint8_t *, size_t, size_t *,
-                             const uint8_t *, size_t, uint8_t, uint8_t, uint16_t, uint16_t,
+                             const uint8_t *, size_t, uint8_t, uint8_t, uint8_t, uint16_t, uint16_t,
                              uint8_t *, size_t, size_t *);
 typedef uint16_t step_back_call(uint8_t *, size_t, uint8_t *, size_t, uint8_t *, size_t, uint8_t *, size_t,
                                 uint8_t *, size_t, size_t *, uint16_t, uint16_t);
@@ -40,6 +40,7 @@ int host_in_both_languages(const uint8_t *frame, size_t frame_length)
     board.journal_length = sizeof journal;
     board.fitted = 0xFF;
     board.station = 0x99;
+    board.release = CABINET_SMALL_LETTERS_TOO;
     board.first_integer = 200;
     board.first_flag = 600;
     if (cabinet_answer_frame(&board, frame, frame_length) != CABINET_ACCEPTED)

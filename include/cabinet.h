@@ -5,8 +5,8 @@
  * (cabinet_answer_frame) and the service panel's step back (cabinet_take_back). The last two are made
  * on a struct cabinet, which has all that they need by name; below them stand the archive's own calls
  * on numbers and byte areas, cabinet_answer and cabinet_step_back. What they promise is document 01's
- * and, of integer variables and flags (request a) and of test calls with line ends in them (request c),
- * document 02's; section names below are document 01's.
+ * and, of integer variables and flags (request a), of test calls with line ends in them (request c) and of
+ * small letters (request l), document 02's; section names below are document 01's.
  *
  * Link with libboard.a. C99 or later, or C++11 or later.
  *
@@ -35,6 +35,12 @@
  *
  * Two settings say where the numbers of integers and flags begin: first_integer, at most 3,996, since a
  * frame has three digits for such a number, and first_flag, at most 65,236, since it has four.
+ *
+ * A third names the cabinet release, and with it the letters that count as digits 10 to 15 in a frame's ID,
+ * station, content and SC: release 1, 'A' to 'F'; release 2, 'A' to 'F' and 'a' to 'f'. The SC is always the
+ * sum of the bytes as sent. What is stored is the value, and replies are in capitals, also where they repeat
+ * what was sent; the ten bytes of a test call (200H) are any under both releases, and come back as sent. A
+ * frame that release 1 accepts has the same answer under release 2. The release may change from call to call.
  *
  *
  * OWNERSHIP
@@ -71,14 +77,15 @@
  *        not whole well-formed entries
  *     5  not eight axis records, or a sensor or error code too       none   same
  *        large, or no fitted axis
+ *    13  release neither 1 nor 2                                     none   same
  *     6  not '!' first, CR LF last, 10 to 1,023 bytes; or a 200H     none   same
  *        frame of another length than 20, whatever its station
- *     7  SC neither true nor '@@'                                    none   same
- *     8  station differs or isn't digits                             none   same
+ *     7  SC neither true, in digits of this release, nor '@@'        none   same
+ *     8  station differs or isn't digits of this release             none   same
  *     9  step back with used length 0                                none   same
  *   101  message unknown                                             error  10 reply bytes written,
  *                                                                           nothing else
- *   102  a content byte isn't a digit (not 200H)                     error  same
+ *   102  a content byte isn't a digit of this release (not 200H)     error  same
  *   103  content length isn't this message's (a 200H's is 6)         error  same
  *   104  program number not 00                                       error  same
  *   105  count zero (24BH has no count)                              error  same
@@ -104,7 +111,7 @@
  *   static struct cabinet board = {
  *       .points = points, .points_length = sizeof points,
  *       .journal = journal, .journal_length = sizeof journal,
- *       .fitted = 0xFF, .station = 0x99,
+ *       .fitted = 0xFF, .station = 0x99, .release = CABINET_SMALL_LETTERS_TOO,
  *       .first_integer = 200, .first_flag = 600                      // all else is zero: fresh
  *   };
  *
@@ -154,6 +161,7 @@ extern "C" {
  * bytes, 40*N+300 before.
  * Version 3: cabinet_receive takes 20 bytes as a test call, so line ends may be among its ten bytes; before,
  * it cut the frame at the first. A 200H frame of another length is refused 6, without a reply; before, 103.
+ * Version 4: the cabinet release, in cabinet_answer behind the station and in struct cabinet; refusal 13.
  */
 #define CABINET_VERSION 4
 
@@ -263,8 +271,8 @@ uint8_t cabinet_receive(const uint8_t *received, size_t received_length,
  *   reply, reply_area_length      the reply area; bytes beyond the reply stay
  *   reply_length    out: how many bytes of the reply area are the reply; 0 where there is none
  *
- * Returns CABINET_ACCEPTED, else the refusal number (1 to 8 and 10: no reply; 101 to 108: the ten bytes of
- * an error reply).
+ * Returns CABINET_ACCEPTED, else the refusal number (1 to 8, 10 and 13: no reply; 101 to 108: the ten bytes
+ * of an error reply).
  *
  * Replies to accepted frames, each '#', station, message ID, content, SC, CR, LF, and the content's digits:
  *
@@ -362,8 +370,9 @@ struct cabinet {
 };
 
 /*
- * Answers one frame, '!' to CR LF, as cabinet_answer does. The reply is the first board->reply_length
- * bytes of board->reply. Returns CABINET_ACCEPTED or the refusal number.
+ * Answers one frame, '!' to CR LF, as cabinet_answer does, under release 1 where board->release is 0. The
+ * reply is the first board->reply_length bytes of board->reply. Returns CABINET_ACCEPTED or the refusal
+ * number.
  */
 static inline uint16_t cabinet_answer_frame(struct cabinet *board,
                                             const uint8_t *frame, size_t frame_length)
@@ -373,7 +382,7 @@ static inline uint16_t cabinet_answer_frame(struct cabinet *board,
                           board->integers, sizeof board->integers, board->flags, sizeof board->flags,
                           board->journal, board->journal_length, &board->used,
                           board->axes, sizeof board->axes, board->fitted, board->station,
-                          board->release == 0 ? CABINET_CAPITALS_ONLY : board->release,
+                          board->release == 0 ? (uint8_t)CABINET_CAPITALS_ONLY : board->release,
                           board->first_integer, board->first_flag,
                           board->reply, sizeof board->reply, &board->reply_length);
 }
