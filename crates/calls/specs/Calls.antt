@@ -1,4 +1,4 @@
--- Document 01, "The areas", and document 02, request a: all that is handed over with a frame, and all that comes back.
+-- Document 01, "The areas", and document 02, requests a and l: all that is handed over with a frame, and all that comes back.
 use Prim.Native.Nat.{ℕ}
 use mathlib.Core.Bool.{cond}
 use mathlib.Core.List.{List, []}

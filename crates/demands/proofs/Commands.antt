@@ -1,13 +1,13 @@
 -- A command's fields, and that it passes a frame's own tests.
 use Prim.Native.Nat.{ℕ, _+_, _-_, _/_, _%_, _≤_, _<_, _^_}
 use mathlib.Core.Path.{_≡_, refl, sym, ap, ap₂, _∙_}
-use mathlib.Core.Bool.{Bool, true, false, cond, not, _||_}
+use mathlib.Core.Bool.{Bool, true, false, cond, not, _&&_, _||_}
 use mathlib.Core.List.{List, [], _∷_, _++_, append-assoc}
 use native.Mathlib.Omega.{arith}
-use lib.Dec.{eqb}
+use lib.Dec.{eqb, leb}
 use lib.ListN.{length, take, drop, getD, length-append, length-drop}
 use lib.Seq.{length-take-le, take-append-le, drop-append-le, take-at, drop-at, getD-at}
-use borrow.Author.Tests.{eqb-true, eqb-false, eq-eqb, ne-eqb, le-leb}
+use borrow.Author.Tests.{eqb-true, eqb-false, eq-eqb, ne-eqb, le-leb, lt-leb}
 use Rattle.digits.specs.Digits.{admits, worthOf, byteOf, admitted, numberOf}
 use Rattle.digits.specs.Text.{text}
 use Rattle.digits.proofs.Inverse.{inverse, and-right}
@@ -73,25 +73,32 @@ module _ (x y : ℕ) (said sc : List ℕ) (two : length sc ≡ 2) where
 
   module _ (least : 3 ≤ length said) where
     -- its ID is the first three bytes of what it says
-    is-message : messageIn (framed x y said sc) ≡ take 3 said
+    pub is-message : messageIn (framed x y said sc) ≡ take 3 said
     is-message = take-append-le 3 said (sc ++ (CR ∷ LF ∷ [])) least
 
     -- test 6: '!' first, CR LF last, 10 to 1,023 bytes, a test call of 20 (02, c)
-    test-fits : testFits said ≡ true → testCallFits (framed x y said sc) ≡ true
-    test-fits fits =
-        ap₂ (λ (t n : Bool). not t || n) (by-message (framed x y said sc) (take 3 said) is-message) (eqb-more 7 (length said) 13 framed-long) ∙ fits
+    test-same : testCallFits (framed x y said sc) ≡ testFits said
+    test-same = ap₂ (λ (t n : Bool). not t || n) (by-message (framed x y said sc) (take 3 said) is-message) (eqb-more 7 (length said) 13 framed-long)
+
+    pub shape-is : shaped (framed x y said sc) ≡ leb (length said + 7) 1023 && testFits said
+    unfolding shaped
+    shape-is =
+        let l = framed-long in
+        rw (is-CR, is-LF, le-leb 10 (length (framed x y said sc)) (omega arith)) (ap₂ (λ (n : ℕ) (t : Bool). leb n 1023 && t) framed-long test-same)
 
     is-shaped : length said ≤ 1016 → testFits said ≡ true → shaped (framed x y said sc) ≡ true
-    unfolding shaped
-    is-shaped most fits =
-        let l = framed-long in
-        rw (is-CR, is-LF, le-leb 10 (length (framed x y said sc)) (omega arith), le-leb (length (framed x y said sc)) 1023 (omega arith)) (test-fits fits)
+    is-shaped most fits = shape-is ∙ rw (le-leb (length said + 7) 1023 (omega arith), fits)
 
     -- its content is the rest
-    is-content : contentIn (framed x y said sc) ≡ drop 3 said
+    pub is-content : contentIn (framed x y said sc) ≡ drop 3 said
     is-content =
         ap (take (length (framed x y said sc) - 10)) (drop-append-le 3 said (sc ++ (CR ∷ LF ∷ [])) least)
         ∙ take-at (drop 3 said) (sc ++ (CR ∷ LF ∷ [])) (length (framed x y said sc) - 10) (simp length-drop (omega (arith, framed-long)))
+
+  -- with fewer bytes it isn't long enough
+  pub too-short : length said < 3 → shaped (framed x y said sc) ≡ false
+  unfolding shaped
+  too-short l = rw (is-CR, is-LF, lt-leb 10 (length (framed x y said sc)) (omega (arith, l, framed-long)))
 
   -- the SC stands behind them
   pub is-sc : scIn (framed x y said sc) ≡ sc

@@ -20,5 +20,6 @@ pub mod Listed
 pub mod Lasting
 pub mod Survived
 pub mod TestCalls
+pub mod Capitals
 pub mod Releases
 pub mod Demands

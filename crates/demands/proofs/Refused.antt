@@ -1,7 +1,6 @@
 -- Demand 1, from the table and the outcome.
 use Prim.Native.Nat.{ℕ, _≤_, _<_}
 use mathlib.Core.Path.{_≡_, refl, sym, ap, _∙_, subst}
-use mathlib.Core.Logic.{⊎-elim, _⊎_, inl, inr}
 use mathlib.Core.Bool.{true, false}
 use mathlib.Core.List.{List, [], _∷_}
 use native.Mathlib.Omega.{arith}
@@ -135,19 +134,6 @@ text-ten c =
 ten-long : (c : Call) → 101 ≤ answerOf c .number → length (answerOf c .text) ≡ 10
 ten-long c h = ap length (text-ten c h) ∙ length-reply _ _ _
 
--- 9 is no frame's, nor 11 and 12
-not-nine : (c : Call) → 9 ≤ silentOf c → (silentOf c ≡ 10) ⊎ (silentOf c ≡ 13)
-unfolding silentOf silentRows areaRows frameRows
-not-nine c =
-    number-given (λ (k : ℕ). 9 ≤ k → (k ≡ 10) ⊎ (k ≡ 13)) (silent c) (λ h. absurd (omega arith))
-    (λ h. absurd (omega arith), (λ h. absurd (omega arith), (λ h. absurd (omega arith), (λ _. inl refl, (λ h. absurd (omega arith), (λ h. absurd (omega arith), (λ _. inr refl, (λ h. absurd (omega arith), (λ h. absurd (omega arith), (λ h. absurd (omega arith), tt))))))))))
-
-no-other : (c : Call) → 9 ≤ answerOf c .number → (answerOf c .number ≡ 10) ⊎ (answerOf c .number ≡ 13) ⊎ (101 ≤ answerOf c .number)
-no-other c =
-    answer-either c (λ (o : Outcome). 9 ≤ o .number → (o .number ≡ 10) ⊎ (o .number ≡ 13) ⊎ (101 ≤ o .number))
-    (λ _ h. inr (inr (asked-high c (λ e. omega (arith, h, e)))))
-    (λ _ h. ⊎-elim inl (λ e. inr (inl e)) (not-nine c h))
-
 back-text : (a : Areas) → backOf a .text ≡ []
 unfolding backOf
 back-text a = either (λ (o : Outcome). o .text ≡ []) (eqb (backRefusalOf a) 0) (λ _. refl) (λ _. refl)
@@ -164,7 +150,6 @@ one-reply =
       ten = λ c h. (text-ten c h, ten-long c h);
       area-left = λ c n h. ap (laid (c .sent .reply) 0) (text-none c n h) ∙ laid-nothing (c .sent .reply) 0;
       beyond-ten = λ c h. beyond (c .sent .reply) (answerOf c .text) (ten-long c h);
-      no-other = no-other;
       back = back-text;
     }
 

@@ -1,22 +1,22 @@
 -- Demand 2 of cabinet releases.
-use Prim.Native.Nat.{ℕ, zero, suc, _-_, _≤_, _<_}
+use Prim.Native.Nat.{ℕ, zero, suc, _+_, _-_, _≤_, _<_}
 use mathlib.Core.Path.{_≡_, refl, sym, ap, ap₂, _∙_, subst}
-use mathlib.Core.Bool.{Bool, true, false, cond, not, _&&_, _||_}
+use mathlib.Core.Bool.{Bool, true, false, cond, not, _&&_, _||_, true≢false}
 use mathlib.Core.Logic.{_⊎_, inl, inr, ⊎-elim}
 use mathlib.Core.List.{List, [], _∷_, _++_}
 use native.Mathlib.Omega.{arith}
 use lib.Bits.{bitAnd}
-use lib.Dec.{eqb}
+use lib.Dec.{eqb, ltb, leb}
 use lib.ListN.{length, take, drop, getD, length-append, length-drop}
 use lib.Seq.{length-take-le}
-use borrow.Author.Tests.{eqb-true, eqb-false, eq-eqb, not-false}
+use borrow.Author.Tests.{eqb-true, eqb-false, ltb-true, ltb-false}
 use Rattle.digits.specs.Digits.{byteOf, capital, capitals, digitsOf, admitted, allDigits, numberOf}
 use Rattle.digits.specs.Laid.{laid}
 use Rattle.digits.specs.Text.{text}
 use Rattle.digits.proofs.Inverse.{inverse, rules, and-left, and-right}
 use Rattle.digits.proofs.OneDigit.{below-letters}
 use Rattle.digits.proofs.Capitals.{length-capitals, take-capitals, drop-capitals}
-use Rattle.frames.specs.Frame.{command, normal, replyOf, stationIn, messageIn, contentIn, beforeSC, scIn, scOf, lowByte, saysNumber, sumTrue, sumOff, sumPasses, stationPasses}
+use Rattle.frames.specs.Frame.{command, normal, replyOf, stationIn, messageIn, contentIn, beforeSC, scIn, scOf, lowByte, shaped, saysNumber, sumTrue, sumOff, sumPasses, stationPasses}
 use Rattle.frames.proofs.Bools.{or-true, and-false}
 use Rattle.frames.proofs.Promised.{says-digits, true-sc}
 use Rattle.frames.proofs.TestID.{is200, by-message, test-id}
@@ -34,44 +34,24 @@ use Rattle.messages.specs.declared.Asked.{Asked}
 use Rattle.messages.specs.declared.Asked.the-variants.{Refused, Order}
 use Rattle.messages.specs.Asked.{notDigits, askedOf, judged, numberGiven}
 use Rattle.messages.proofs.Judged.{Right, told, ordered, as-admitted}
-use Rattle.messages.proofs.Shapes.{in-frame, Shape, shaped}
+use Rattle.messages.proofs.Shapes.{in-frame, Shape, shaped as table-shape}
 use Rattle.messages.proofs.Capitals.{same-rest, same-judged}
 use Rattle.calls.specs.Calls.{Areas, Sent, Call, Outcome, lengthsOf, areaIn, written}
-use Rattle.refusals.specs.Refusals.{releaseFits, silentOf}
-use Rattle.refusals.proofs.Rows.{CallPassed, silent-is, past-silent, call-passed}
+use Rattle.refusals.specs.Refusals.{axesFit, releaseFits, silentOf}
+use Rattle.refusals.proofs.Rows.{three, areaNumber, silent-is, past-silent, call-passed}
 use Rattle.refusals.proofs.Tested.{shaped-long}
-use Rattle.queries.specs.Replies.{axesText}
+use Rattle.queries.specs.Replies.{sameText, axesText}
 use Rattle.orders.specs.Orders.{rest, writes, newBytes, saidBy}
 use Rattle.orders.proofs.Judging.{not-so}
 use Rattle.link.specs.Answer.{held, asked, textOf, areasAfter, answerOf}
-use Rattle.link.proofs.Answering.{heard-answer, accepted}
+use Rattle.link.proofs.Answering.{silent-answer, heard-answer, accepted}
 use Rattle.demands.specs.History.{ours}
-use Rattle.demands.specs.Reading.{Host, asking}
-use Rattle.demands.specs.TestCalls.{handed, Unrefused}
-use Rattle.demands.specs.Releases.{under, Plain, CapitalsOnly, frameWith, EitherSize, Either, SameUnderTwo, Releases, SameAnswer}
+use Rattle.demands.specs.Reading.{frameWith, commandOf, asking}
+use Rattle.demands.specs.TestCalls.{handed}
+use Rattle.demands.specs.Releases.{under, Plain, CapitalsOnly, EitherSize, Either, SameUnderTwo, Releases, SameAnswer}
 use Rattle.demands.proofs.Sole.{one-answer}
-use Rattle.demands.proofs.Commands.{testFits, begun, framed, is-sc, is-begun, off, Heard, heard-with, heard, messageNamed, message-of}
-use Rattle.demands.proofs.Asking.{Open, heard-there}
-use Rattle.demands.proofs.TestCalls.{opened}
-
--- '200' is no other text's capitals
-no-letters : (s : List ℕ) → capitals s ≡ text "200" → s ≡ text "200"
-no-letters s e = go s (sym (length-capitals s) ∙ ap length e) e
-  where
-    at : {x : ℕ} (n : ℕ) → n < 65 → capital x ≡ n → x ≡ n
-    at {x} n h c = below-letters x n h c
-
-    go : (s : List ℕ) → length s ≡ 3 → capitals s ≡ text "200" → s ≡ text "200"
-    go [] l e = absurd (omega arith)
-    go (x ∷ []) l e = absurd (omega arith)
-    go (x ∷ y ∷ []) l e = absurd (omega arith)
-    go (x ∷ y ∷ z ∷ []) l e =
-        rw (
-          at 0x32 (omega arith) (ap (λ (t : List ℕ). getD t 0 0) e),
-          at 0x30 (omega arith) (ap (λ (t : List ℕ). getD t 1 0) e),
-          at 0x30 (omega arith) (ap (λ (t : List ℕ). getD t 2 0) e),
-        )
-    go (x ∷ y ∷ z ∷ w ∷ s) l e = absurd (omega arith)
+use Rattle.demands.proofs.Capitals.{id-200, known-id, no-letters, replies-in-capitals}
+use Rattle.demands.proofs.Commands.{testFits, begun, framed, framed-long, is-message, shape-is, is-content, too-short, is-sc, is-begun, high, low, off, messageNamed, message-of}
 
 -- what stands in a field that says a number is admitted, and what passes under release 1 passes under release 2
 module _ (field : List ℕ) (n : ℕ) where
@@ -111,41 +91,6 @@ module _ (frame : List ℕ) where
       is-off (x ∷ []) l o = absurd (omega arith)
       is-off (x ∷ y ∷ []) l o = rw (eqb-true x 0x40 (and-left (eqb x 0x40) (eqb y 0x40) o), eqb-true y 0x40 (and-right (eqb x 0x40) (eqb y 0x40) o))
       is-off (x ∷ y ∷ z ∷ s) l o = absurd (omega arith)
-
--- the row that is found has the ID that was looked for
-found-id : (id : ℕ) (ms : List Message) {m : Message} → namedIn id ms ≡ Known m → id ≡ m .id
-found-id id [] e = absurd (let z : _≡_ {A = ℕ} 0 1 = cc in omega arith)
-found-id id (k ∷ ms) {m} e = go (eqb id (k .id)) refl (found-id id ms) e
-  where
-    go : (b : Bool) → eqb id (k .id) ≡ b → (namedIn id ms ≡ Known m → id ≡ m .id) → cond b (Known k) (namedIn id ms) ≡ Known m → id ≡ m .id
-    go true q g f = let w : k ≡ m = cc in eqb-true _ _ q ∙ ap (λ (x : Message). x .id) w
-    go false q g f = g f
-
--- an ID that names a message is admitted, and is its number
-module _ (release : ℕ) (frame : List ℕ) {m : Message} (known : messageOf release frame ≡ Known m) where
-  pub known-id : (admitted release (messageIn frame) ≡ true) × (numberOf (messageIn frame) ≡ m .id)
-  unfolding messageOf messageNumbered
-  known-id = go (admitted release (messageIn frame)) refl known
-    where
-      go : (b : Bool) → admitted release (messageIn frame) ≡ b → cond b (namedIn (numberOf (messageIn frame)) messages) Unknown ≡ Known m
-          → (admitted release (messageIn frame) ≡ true) × (numberOf (messageIn frame) ≡ m .id)
-      go true q f = (q, found-id (numberOf (messageIn frame)) messages f)
-      go false q f = absurd (let z : _≡_ {A = ℕ} 0 1 = cc in omega arith)
-
-  -- the one row with any bytes is 200H's
-  any-200 : anyBytes (m .follows) ≡ true → m .id ≡ 0x200
-  any-200 =
-      in-frame (λ (k : Message). anyBytes (k .follows) ≡ true → k .id ≡ 0x200) release frame
-      (λ _. refl, (not-so, (not-so, (not-so, (not-so, (not-so, (not-so, (not-so, (not-so, (not-so, (not-so, (not-so, tt))))))))))))
-      known
-
-  -- so its ID is '200', which has no letters
-  id-200 : 6 ≤ length frame → anyBytes (m .follows) ≡ true → messageIn frame ≡ text "200"
-  unfolding byteOf
-  id-200 l a =
-      let i = messageIn frame in
-      let k : length i ≡ 3 = length-take-le 3 (drop 3 frame) (simp length-drop (omega arith)) in
-      no-letters i (sym (inverse 3 .digits-of-value i k (rules i .digits release (known-id .0))) ∙ ap (digitsOf 3) (known-id .1 ∙ any-200 a))
 
 -- "release 1, capitals only"
 capitals-only : CapitalsOnly ours
@@ -284,11 +229,62 @@ same-answer c r r′ a a′ reply reply′ x y n =
     })
     x
 
--- "release 2, either": a text that isn't a 200H's, in either size
-other-id : (said : List ℕ) → (take 3 said ≡ text "200" → ⊥) → testFits said ≡ true
-other-id said other = go (is200 (take 3 said)) refl
+-- two frames over the same areas, from the same host, that the tests of a frame pass or refuse alike, and that ask for the same where they are heard
+module _ (a : Areas) (h : Sent) (f g : List ℕ) where
+  abbrev c : Call
+  c = handed a h f
+
+  abbrev d : Call
+  d = handed a h g
+
+  abbrev done : Call → Asked → Outcome
+  done e x = record { number = numberGiven x; text = textOf e x; areas = areasAfter e x }
+
+  pub record Alike : Type 0 where
+    pub shape : shaped f ≡ shaped g
+    pub sum : sumPasses (h .settings .release) f ≡ sumPasses (h .settings .release) g
+    pub station : stationPasses (h .settings .release) (h .settings .station) f ≡ stationPasses (h .settings .release) (h .settings .station) g
+    pub asks : shaped f ≡ true → asked c ≡ asked d
+    pub does : shaped f ≡ true → (x : Asked) → asked d ≡ x → done c x ≡ done d x
+
+  pub same-answers : Alike → answerOf c ≡ answerOf d
+  same-answers k = go (eqb (silentOf c) 0) refl
+    where
+      silent-same : silentOf c ≡ silentOf d
+      silent-same =
+          let own = areaNumber (lengthsOf a) (a .journal) (a .kept) in
+          silent-is c
+          ∙ (λ i.
+          cond (ltb (length (h .reply)) 1024) 1
+          (own
+          (cond (not (axesFit (h .axes) (h .settings .fitted))) 5
+          (cond (not (releaseFits (h .settings .release))) 13 (three 6 (not (k .shape i)) (not (k .sum i)) (not (k .station i)) 0)))))
+          ∙ sym (silent-is d)
+
+      go : (b : Bool) → eqb (silentOf c) 0 ≡ b → answerOf c ≡ answerOf d
+      go true e =
+          let z = eqb-true _ _ e in
+          let s = call-passed c z .shape in
+          heard-answer c z ∙ ap (done c) (k .asks s) ∙ k .does s (asked d) refl ∙ sym (heard-answer d (sym silent-same ∙ z))
+      go false e =
+          let z = eqb-false _ _ e in
+          silent-answer c (silentOf c) refl z ∙ sym (silent-answer d (silentOf c) silent-same z)
+
+-- a text is a 200H's, or not; '200' has no letters
+is-200 : (said : List ℕ) → (take 3 said ≡ text "200") ⊎ (take 3 said ≡ text "200" → ⊥)
+is-200 said = go (is200 (take 3 said)) refl
   where
     -- as a frame's ID: whatever stands before it
+    frame : List ℕ
+    frame = begun 0 0 said
+
+    go : (b : Bool) → is200 (take 3 said) ≡ b → (take 3 said ≡ text "200") ⊎ (take 3 said ≡ text "200" → ⊥)
+    go true e = inl (test-id frame .0 (by-message frame (take 3 said) refl ∙ e))
+    go false e = inr (λ q. true≢false (sym (sym (by-message frame (take 3 said) refl) ∙ test-id frame .1 q) ∙ e))
+
+other-fits : (said : List ℕ) → (take 3 said ≡ text "200" → ⊥) → testFits said ≡ true
+other-fits said other = go (is200 (take 3 said)) refl
+  where
     frame : List ℕ
     frame = begun 0 0 said
 
@@ -298,6 +294,27 @@ other-id said other = go (is200 (take 3 said)) refl
 
 other-capitals : (said : List ℕ) → (take 3 said ≡ text "200" → ⊥) → take 3 (capitals said) ≡ text "200" → ⊥
 other-capitals said other e = other (no-letters (take 3 said) (sym (take-capitals 3 said) ∙ e))
+
+-- a frame that is shaped says three bytes at least
+long-enough : (x y : ℕ) (said sc : List ℕ) → length sc ≡ 2 → shaped (framed x y said sc) ≡ true → 3 ≤ length said
+long-enough x y said sc two s = go (ltb (length said) 3) refl
+  where
+    go : (b : Bool) → ltb (length said) 3 ≡ b → 3 ≤ length said
+    go true e = absurd (true≢false (sym s ∙ too-short x y said sc two (ltb-true _ _ e)))
+    go false e = ltb-false _ _ e
+
+-- texts as long as each other, and both fit or don't as a test call's: their frames are shaped or not alike
+same-shape : (x y x′ y′ : ℕ) (said said′ sc sc′ : List ℕ) → length sc ≡ 2 → length sc′ ≡ 2 → length said ≡ length said′ → testFits said ≡ testFits said′
+    → shaped (framed x y said sc) ≡ shaped (framed x′ y′ said′ sc′)
+same-shape x y x′ y′ said said′ sc sc′ two two′ l t = go (ltb (length said) 3) refl
+  where
+    go : (b : Bool) → ltb (length said) 3 ≡ b → shaped (framed x y said sc) ≡ shaped (framed x′ y′ said′ sc′)
+    go true e =
+        let s = ltb-true _ _ e in
+        too-short x y said sc two s ∙ sym (too-short x′ y′ said′ sc′ two′ (omega (arith, s, l)))
+    go false e =
+        let s = ltb-false _ _ e in
+        shape-is x y said sc two s ∙ ap₂ (λ (n : ℕ) (b : Bool). leb (n + 7) 1023 && b) l t ∙ sym (shape-is x′ y′ said′ sc′ two′ (omega (arith, s, l)))
 
 -- an ID in capitals names the same
 same-named : (id : List ℕ) → messageNamed 2 (capitals id) ≡ messageNamed 2 id
@@ -316,28 +333,54 @@ same-new ChangeRun unit count rest = same-bytes rest
 same-new ShowFlags unit count rest = refl
 same-new SetFlag unit count rest = ap (λ (n : ℕ). n ∷ []) (rules rest .same-number)
 
--- a frame that is heard, and the command in capitals that is
-module _ (a : Areas) (o : Open a) (h : Sent) (host : Host h) (e : h .settings .release ≡ 2) (x y : ℕ) (said sc : List ℕ)
-    (i : EitherSize h (x ∷ y ∷ []) said sc) where
+-- what an order says, where what follows the fields is the same, or where its number is and it isn't a 200H's
+said-alike : (a : Areas) (h : Sent) (f g : List ℕ) (does : Action) (m : Message) (start count : ℕ) (area : List ℕ)
+    → numberOf (rest (handed a h f .sent) m) ≡ numberOf (rest (handed a h g .sent) m) → (does ≡ SayBack → rest (handed a h f .sent) m ≡ rest (handed a h g .sent) m)
+    → saidBy does (held (handed a h f)) (handed a h f .sent) m start count area ≡ saidBy does (held (handed a h g)) (handed a h g .sent) m start count area
+said-alike a h f g SayBack m start count area n r = ap (sameText m) (r refl)
+said-alike a h f g CountPoints m start count area n r = refl
+said-alike a h f g ListPoints m start count area n r = refl
+said-alike a h f g ReadRun m start count area n r = refl
+said-alike a h f g AxisStatus m start count area n r = ap (λ (k : ℕ). axesText m (bitAnd k (h .settings .fitted)) (h .axes .records)) n
+said-alike a h f g WritePoints m start count area n r = refl
+said-alike a h f g ClearRun m start count area n r = refl
+said-alike a h f g ChangeRun m start count area n r = refl
+said-alike a h f g ShowFlags m start count area n r = refl
+said-alike a h f g SetFlag m start count area n r = refl
+
+-- the same order over frames whose texts are the same, or in capitals
+done-alike : (a : Areas) (h : Sent) (f g : List ℕ) (x : Asked)
+    → ((m : Message) (start count : ℕ) → x ≡ Order m start count
+    → (numberOf (rest (handed a h f .sent) m) ≡ numberOf (rest (handed a h g .sent) m))
+    × (m .does ≡ SayBack → rest (handed a h f .sent) m ≡ rest (handed a h g .sent) m)
+    × ((unit : ℕ) → newBytes (m .does) unit count (rest (handed a h f .sent) m) ≡ newBytes (m .does) unit count (rest (handed a h g .sent) m)))
+    → done a h f g (handed a h f) x ≡ done a h f g (handed a h g) x
+done-alike a h f g (Refused k) w = refl
+done-alike a h f g (Order m start count) w =
+    let k = w m start count refl in
+    let hold = heldIn (lengthsOf a) in
+    let t = said-alike a h f g (m .does) m start count (areaIn (m .tag) a) (k .0) (k .1) in
+    let r = ap (λ (b : List ℕ). cond (writes (m .does)) (written hold (m .tag) start count b a) a) (k .2 (kindOf hold (m .tag) .unit)) in
+    λ i. record { number = 0; text = replyOf normal (h .settings .station) (t i); areas = r i }
+
+-- the same text with another station and another SC, both of which pass
+module _ (a : Areas) (h : Sent) (e : h .settings .release ≡ 2) (x y : ℕ) (said sc : List ℕ)
+    (st : capitals (x ∷ y ∷ []) ≡ digitsOf 2 (h .settings .station)) (su : (capitals sc ≡ scOf (begun x y said)) ⊎ (sc ≡ text "@@")) where
+  abbrev station : ℕ
+  station = h .settings .station
+
   abbrev sent : List ℕ
   sent = framed x y said sc
 
-  abbrev mixed : Call
-  mixed = handed a h sent
-
-  abbrev plain : Call
-  plain = asking a h false (capitals said)
-
-  abbrev station : ℕ
-  station = h .settings .station
+  abbrev command-off : List ℕ
+  command-off = commandOf false station said
 
   -- what holds under release 2 holds of the host
   so : (P : ℕ → Type 0) → P 2 → P (h .settings .release)
   so P p = subst P (sym e) p
 
   sc-long : length sc ≡ 2
-  sc-long =
-      ⊎-elim (λ q. sym (length-capitals sc) ∙ ap length q ∙ inverse 2 .as-many (lowByte (begun x y said))) (λ q. ap length q) (i .sc-is)
+  sc-long = ⊎-elim (λ q. sym (length-capitals sc) ∙ ap length q ∙ inverse 2 .as-many (lowByte (begun x y said))) (λ q. ap length q) su
 
   -- digits whose capitals are a number's are admitted
   are-admitted : (field : List ℕ) (n : ℕ) → capitals field ≡ digitsOf 2 n → admitted 2 field ≡ true
@@ -347,115 +390,150 @@ module _ (a : Areas) (o : Open a) (h : Sent) (host : Host h) (e : h .settings .r
   unfolding sumPasses
   sum-passes =
       ⊎-elim
-      (λ q.
+      (λ (q : capitals sc ≡ scOf (begun x y said)).
       let there = is-sc x y said sc sc-long in
+      let l : 4 ≤ length sent = omega (arith, framed-long x y said sc sc-long) in
       let t =
-      true-sc 2 sent (simp length-append (omega (arith, sc-long))) .1
+      true-sc 2 sent l .1
       (ap (admitted 2) there ∙ are-admitted sc (lowByte (begun x y said)) q, ap capitals there ∙ q ∙ ap scOf (sym (is-begun x y said sc sc-long))) in
       rw t)
       (λ q. subst (λ (s : List ℕ). sumPasses 2 (framed x y said s) ≡ true) (sym q) (off 2 x y said))
-      (i .sc-is)
+      su
 
-  station-passes : stationPasses 2 station sent ≡ true
+  same-station : stationPasses 2 station sent ≡ stationPasses 2 station command-off
   unfolding stationPasses
-  station-passes =
-      says-digits 2 (x ∷ y ∷ []) station refl (host .station-byte) .1 (are-admitted (x ∷ y ∷ []) station (i .station-is), i .station-is)
+  same-station =
+      let own = digitsOf 2 station in
+      ap₂ (λ (b : Bool) (n : ℕ). b && eqb n station) (are-admitted (x ∷ y ∷ []) station st ∙ sym (inverse 2 .are-digits 2 station))
+      (sym (rules (x ∷ y ∷ []) .same-number) ∙ ap numberOf st)
 
-  is-heard : Heard (h .settings .release) station said sent
-  is-heard =
-      heard-with (h .settings .release) station x y said sc sc-long (so (λ (r : ℕ). sumPasses r sent ≡ true) sum-passes)
-      (so (λ (r : ℕ). stationPasses r station sent ≡ true) station-passes)
-      (i .least)
-      (i .most)
-      (other-id said (i .other))
+  -- where it is shaped, both have the same ID and the same content
+  module _ (s : shaped sent ≡ true) where
+    long-text : 3 ≤ length said
+    long-text = long-enough x y said sc sc-long s
 
-  plain-heard : Heard (h .settings .release) station (capitals said) (plain .sent .frame)
-  plain-heard =
-      let l = length-capitals said in
-      heard (h .settings .release) false station (capitals said) (host .station-byte) (omega (arith, l, i .least)) (omega (arith, l, i .most))
-      (other-id (capitals said) (other-capitals said (i .other)))
+    same-id : messageIn sent ≡ messageIn command-off
+    same-id = is-message x y said sc sc-long long-text ∙ sym (is-message (high station) (low station) said (text "@@") refl long-text)
 
-  -- both ask the same
-  same-asked : asked mixed ≡ asked plain
+    same-body : contentIn sent ≡ contentIn command-off
+    same-body = is-content x y said sc sc-long long-text ∙ sym (is-content (high station) (low station) said (text "@@") refl long-text)
+
+  same-text-alike : Alike a h sent command-off
   unfolding askedOf
-  same-asked =
+  same-text-alike =
       let r = h .settings .release in
-      let H = heldIn (lengthsOf a) in
-      let F = h .settings .fitted in
-      let m = is-heard in
-      let p = plain-heard in
-      let n = messageNamed r (take 3 said) in
-      let id : messageOf r (plain .sent .frame) ≡ n =
-      message-of r (plain .sent .frame) (take 3 (capitals said)) (p .message) ∙ ap (messageNamed r) (take-capitals 3 said)
-      ∙ so (λ (k : ℕ). messageNamed k (capitals (take 3 said)) ≡ messageNamed k (take 3 said)) (same-named (take 3 said)) in
-      ap₂ (λ (k : Named) (s : List ℕ). judged H F r k s) (message-of r sent (take 3 said) (m .message)) (m .content)
-      ∙ sym (so (λ (k : ℕ). judged H F k n (capitals (drop 3 said)) ≡ judged H F k n (drop 3 said)) (same-judged H F n (drop 3 said)))
-      ∙ sym (ap₂ (λ (k : Named) (s : List ℕ). judged H F r k s) id (p .content ∙ drop-capitals 3 said))
+      record {
+        shape = same-shape x y (high station) (low station) said said sc (text "@@") sc-long refl refl refl;
+        sum = so (λ (k : ℕ). sumPasses k sent ≡ sumPasses k command-off) (sum-passes ∙ sym (off 2 (high station) (low station) said));
+        station = so (λ (k : ℕ). stationPasses k station sent ≡ stationPasses k station command-off) same-station;
+        asks = λ s.
+            ap₂ (λ (n : Named) (t : List ℕ). judged (heldIn (lengthsOf a)) (h .settings .fitted) r n t)
+            (message-of r sent (messageIn command-off) (same-id s) ∙ sym (message-of r command-off (messageIn command-off) refl))
+            (same-body s);
+        does = λ s z _.
+            done-alike a h sent command-off z
+            (λ m start count _.
+            let same = ap (restIn m) (same-body s) in
+            (ap numberOf same, λ _. same, λ unit. ap (newBytes (m .does) unit count) same));
+      }
 
-  -- what follows the fields, in capitals
-  module _ (m : Message) where
-    rest-capitals : rest (plain .sent) m ≡ capitals (rest (mixed .sent) m)
-    rest-capitals =
-        ap (restIn m) (plain-heard .content ∙ drop-capitals 3 said) ∙ same-rest m (drop 3 said)
-        ∙ ap (λ (s : List ℕ). capitals (restIn m s)) (sym (is-heard .content))
+-- a command that isn't a 200H's, and the same in capitals
+module _ (a : Areas) (h : Sent) (e : h .settings .release ≡ 2) (said : List ℕ) (other : take 3 said ≡ text "200" → ⊥) where
+  abbrev as-is : List ℕ
+  as-is = commandOf false (h .settings .station) said
 
-    -- what an order other than 200H's says
-    either-said : (does : Action) (start count : ℕ) (area : List ℕ) → (does ≡ SayBack → ⊥)
-        → saidBy does (held mixed) (mixed .sent) m start count area ≡ saidBy does (held plain) (plain .sent) m start count area
-    either-said SayBack start count area n = absurd (n refl)
-    either-said CountPoints start count area n = refl
-    either-said ListPoints start count area n = refl
-    either-said ReadRun start count area n = refl
-    either-said AxisStatus start count area n =
-        ap (λ (k : ℕ). axesText m (bitAnd k (h .settings .fitted)) (h .axes .records))
-        (sym (rules (rest (mixed .sent) m) .same-number) ∙ ap numberOf (sym rest-capitals))
-    either-said WritePoints start count area n = refl
-    either-said ClearRun start count area n = refl
-    either-said ChangeRun start count area n = refl
-    either-said ShowFlags start count area n = refl
-    either-said SetFlag start count area n = refl
+  abbrev as-capitals : List ℕ
+  as-capitals = commandOf false (h .settings .station) (capitals said)
 
-    either-new : (start count : ℕ) → areasAfter mixed (Order m start count) ≡ areasAfter plain (Order m start count)
-    either-new start count =
-        let k = kindOf (held mixed) (m .tag) in
-        ap (λ (b : List ℕ). cond (writes (m .does)) (written (held mixed) (m .tag) start count b a) a)
-        (sym (same-new (m .does) (k .unit) count (rest (mixed .sent) m)) ∙ ap (newBytes (m .does) (k .unit) count) (sym rest-capitals))
+  abbrev X : ℕ
+  X = high (h .settings .station)
 
-  -- the order isn't a 200H's
-  not-test : (m : Message) (start count : ℕ) → asked plain ≡ Order m start count → m .does ≡ SayBack → ⊥
-  unfolding askedOf
-  not-test m start count q d =
-      let f = plain .sent .frame in
-      let r = h .settings .release in
-      let t = told (held plain) (h .settings .fitted) r (messageOf r f) (contentIn f) m start count q in
-      let w : Shape SayBack m = subst (λ (x : Action). Shape x m) d (shaped r f m (t .message) .shape) in
-      let l = shaped-long f (plain-heard .has-shape) in
-      other-capitals said (i .other) (sym (plain-heard .message) ∙ id-200 r f (t .message) (omega arith) (ap anyBytes (w .1)))
+  abbrev Y : ℕ
+  Y = low (h .settings .station)
 
-  answered : (x : Asked) → asked plain ≡ x
-      → _≡_ {A = Outcome} (record { number = numberGiven x; text = textOf mixed x; areas = areasAfter mixed x }) (record { number = numberGiven x; text = textOf plain x; areas = areasAfter plain x })
-  answered (Refused k) q = refl
-  answered (Order m start count) q =
-      let t = either-said m (m .does) start count (areaIn (m .tag) a) (not-test m start count q) in
-      let r = either-new m start count in
-      λ j. record { number = 0; text = replyOf normal station (t j); areas = r j }
+  under-two : (P : ℕ → Type 0) → P 2 → P (h .settings .release)
+  under-two P p = subst P (sym e) p
 
-  either-answer : answerOf mixed ≡ answerOf plain
-  either-answer =
-      heard-answer mixed (heard-there a h sent said host o is-heard)
-      ∙ ap (λ (z : Asked). record { number = numberGiven z; text = textOf mixed z; areas = areasAfter mixed z }) same-asked
-      ∙ answered (asked plain) refl
-      ∙ sym (heard-answer plain (heard-there a h (plain .sent .frame) (capitals said) host o plain-heard))
+  module _ (s : shaped as-is ≡ true) where
+    long : 3 ≤ length said
+    long = long-enough X Y said (text "@@") refl s
 
--- a station of two bytes
+    long-capitals : 3 ≤ length (capitals said)
+    long-capitals = omega (arith, long, length-capitals said)
+
+    body : contentIn as-is ≡ drop 3 said
+    body = is-content X Y said (text "@@") refl long
+
+    body-capitals : contentIn as-capitals ≡ capitals (drop 3 said)
+    body-capitals = is-content X Y (capitals said) (text "@@") refl long-capitals ∙ drop-capitals 3 said
+
+    id-capitals : messageIn as-capitals ≡ capitals (take 3 said)
+    id-capitals = is-message X Y (capitals said) (text "@@") refl long-capitals ∙ take-capitals 3 said
+
+    same-asked : asked (handed a h as-is) ≡ asked (handed a h as-capitals)
+    unfolding askedOf
+    same-asked =
+        let r = h .settings .release in
+        let H = heldIn (lengthsOf a) in
+        let F = h .settings .fitted in
+        let n = messageNamed r (take 3 said) in
+        let id : messageOf r as-capitals ≡ n =
+        message-of r as-capitals (capitals (take 3 said)) id-capitals
+        ∙ under-two (λ (k : ℕ). messageNamed k (capitals (take 3 said)) ≡ messageNamed k (take 3 said)) (same-named (take 3 said)) in
+        ap₂ (λ (k : Named) (t : List ℕ). judged H F r k t) (message-of r as-is (take 3 said) (is-message X Y said (text "@@") refl long)) body
+        ∙ sym (under-two (λ (k : ℕ). judged H F k n (capitals (drop 3 said)) ≡ judged H F k n (drop 3 said)) (same-judged H F n (drop 3 said)))
+        ∙ sym (ap₂ (λ (k : Named) (t : List ℕ). judged H F r k t) id body-capitals)
+
+    rest-capitals : (m : Message) → rest (handed a h as-capitals .sent) m ≡ capitals (rest (handed a h as-is .sent) m)
+    rest-capitals m = ap (restIn m) body-capitals ∙ same-rest m (drop 3 said) ∙ ap (λ (t : List ℕ). capitals (restIn m t)) (sym body)
+
+    -- the order isn't a 200H's
+    not-test : (m : Message) (start count : ℕ) → asked (handed a h as-capitals) ≡ Order m start count → m .does ≡ SayBack → ⊥
+    unfolding askedOf
+    not-test m start count q d =
+        let r = h .settings .release in
+        let t = told (held (handed a h as-capitals)) (h .settings .fitted) r (messageOf r as-capitals) (contentIn as-capitals) m start count q in
+        let w : Shape SayBack m = subst (λ (k : Action). Shape k m) d (table-shape r as-capitals m (t .message) .shape) in
+        let l = framed-long X Y (capitals said) (text "@@") refl in
+        let i = id-200 r as-capitals (t .message) (omega (arith, l, long-capitals)) (ap anyBytes (w .1)) in
+        other (no-letters (take 3 said) (sym id-capitals ∙ i))
+
+  capitals-alike : Alike a h as-is as-capitals
+  unfolding stationPasses
+  capitals-alike =
+      record {
+        shape =
+            same-shape X Y X Y said (capitals said) (text "@@") (text "@@") refl refl (sym (length-capitals said))
+            (other-fits said other ∙ sym (other-fits (capitals said) (other-capitals said other)));
+        sum = off (h .settings .release) X Y said ∙ sym (off (h .settings .release) X Y (capitals said));
+        station = refl;
+        asks = same-asked;
+        does = λ s z q.
+            done-alike a h as-is as-capitals z
+            (λ m start count w.
+            let there = rest-capitals s m in (
+              sym (rules (rest (handed a h as-is .sent) m) .same-number) ∙ ap numberOf (sym there),
+              λ d. absurd (not-test s m start count (q ∙ w) d),
+              λ unit. sym (same-new (m .does) unit count (rest (handed a h as-is .sent) m)) ∙ ap (newBytes (m .does) unit count) (sym there),
+            ));
+      }
+
+-- "release 2, either": first station and SC, then what is said
 either : Either ours
-either a u h host e st said sc i = go st (sym (length-capitals st) ∙ ap length (i .station-is) ∙ inverse 2 .as-many (h .settings .station)) i
+either a h e st said sc plain i = go st (sym (length-capitals st) ∙ ap length (i .station-is) ∙ inverse 2 .as-many (h .settings .station)) i
   where
-    go : (st : List ℕ) → length st ≡ 2 → EitherSize h st said sc → answerOf (handed a h (frameWith st said sc)) ≡ answerOf (asking a h false (capitals said))
-    go [] l i = absurd (omega arith)
-    go (x ∷ []) l i = absurd (omega arith)
-    go (x ∷ y ∷ []) l i = either-answer a (opened a u) h host e x y said sc i
-    go (x ∷ y ∷ z ∷ st) l i = absurd (omega arith)
+    said-plain : EitherSize h st said sc plain → answerOf (asking a h false said) ≡ answerOf (asking a h false plain)
+    said-plain i =
+        ⊎-elim (λ q. ap (λ (s : List ℕ). answerOf (asking a h false s)) (sym (i .test-call q)))
+        (λ q. same-answers a h (as-is a h e said q) (as-capitals a h e said q) (capitals-alike a h e said q) ∙ ap (λ (s : List ℕ). answerOf (asking a h false s)) (sym (i .other q)))
+        (is-200 said)
+
+    go : (t : List ℕ) → length t ≡ 2 → EitherSize h t said sc plain → answerOf (handed a h (frameWith t said sc)) ≡ answerOf (asking a h false plain)
+    go [] l k = absurd (omega arith)
+    go (x ∷ []) l k = absurd (omega arith)
+    go (x ∷ y ∷ []) l k =
+        same-answers a h (framed x y said sc) (commandOf false (h .settings .station) said) (same-text-alike a h e x y said sc (k .station-is) (k .sc-is)) ∙ said-plain i
+    go (x ∷ y ∷ z ∷ t) l k = absurd (omega arith)
 
 pub releases : Releases ours
-releases = record { capitals-only = capitals-only; either = either; same-under-two = same-under-two }
+releases = record { capitals-only = capitals-only; either = either; replies-in-capitals = replies-in-capitals; same-under-two = same-under-two }

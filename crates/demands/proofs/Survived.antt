@@ -6,8 +6,6 @@ use mathlib.Core.List.{List}
 use native.Mathlib.Omega.{arith}
 use lib.ListN.{length}
 use Rattle.digits.specs.Text.{text}
-use Rattle.digits.specs.Digits.{admitted}
-use Rattle.digits.proofs.Inverse.{rules}
 use Rattle.digits.proofs.Bools.{was-not}
 use Rattle.kinds.specs.declared.Held.{Held}
 use Rattle.kinds.specs.declared.Lengths.{Lengths}
@@ -20,15 +18,14 @@ use Rattle.table.specs.declared.Action.{Action}
 use Rattle.table.specs.declared.Action.the-variants.{WritePoints, ClearRun}
 use Rattle.table.specs.declared.Message.{Message}
 use Rattle.table.specs.declared.Named.the-variants.{Known}
-use Rattle.table.specs.Table.{row, anyBytes}
-use Rattle.messages.proofs.Judged.{as-admitted}
+use Rattle.table.specs.Table.{row}
 use Rattle.calls.specs.Calls.{Areas, Sent, Call, lengthsOf}
 use Rattle.orders.specs.Orders.{rest, writes, newBytes}
 use Rattle.link.specs.Answer.{held, answerOf}
 use Rattle.refusals.proofs.Rows.{call-passed}
 use Rattle.link.proofs.Carrying.{fine}
 use Rattle.demands.specs.History.{messageBy, ours}
-use Rattle.demands.specs.Reading.{content, startOf, countOf, RunRead, IntegersStored, FlagRead, FlagStored, PointsRead, PointsGone, Reads, effectiveOf}
+use Rattle.demands.specs.Reading.{startOf, countOf, RunRead, IntegersStored, FlagRead, FlagStored, PointsRead, PointsGone, Reads, effectiveOf}
 use Rattle.demands.specs.Survive.{Accepted, HeardAgain, effectiveNamed, Once, EveryDigitSurvives}
 use Rattle.demands.proofs.Refused.{one-number}
 use Rattle.demands.proofs.Commands.{writing, clearing, changing, changingIntegers, setting, row-of, rows, station-byte}
@@ -70,8 +67,6 @@ reads {h} {a} {m} {s} {later} sound known t =
       cleared = λ i.
           let e = row-of s 0x246 clearing known i (rows .1) in
           subst (λ (x : Message). PointsGone ours a x s later) (sym e) (points-gone (here e) sound);
-      as-sent = λ one any.
-          rules (content s) .capitals-only (subst (λ (r : ℕ). admitted r (content s) ≡ true) one (as-admitted (s .settings .release) m (content s) any (t .ordered .right .digits)));
     }
   where
     here : {r : Message} → m ≡ r → Standing h a r s later

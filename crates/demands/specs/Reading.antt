@@ -1,7 +1,7 @@
 -- Demand 2: how a board is asked, and what its answers say of the numbers that a write named.
 use Prim.Native.Nat.{ℕ, zero, suc, _+_, _-_, _*_, _<_, _≤_}
 use mathlib.Core.Path.{_≡_}
-use mathlib.Core.Bool.{Bool, true, false, cond, not, _&&_, _||_}
+use mathlib.Core.Bool.{Bool, true, cond, not, _&&_, _||_}
 use mathlib.Core.List.{List, [], _∷_, _++_}
 use lib.Dec.{leb, eqb}
 use lib.ListN.{length, take, drop, getD}
@@ -17,7 +17,7 @@ use Rattle.points.specs.Point.{lengthOf, effectiveIn}
 use Rattle.table.specs.declared.Message.{Message}
 use Rattle.table.specs.declared.Named.{Named}
 use Rattle.table.specs.declared.Named.the-variants.{Known, Unknown}
-use Rattle.table.specs.Table.{startIn, countIn, restIn, anyBytes}
+use Rattle.table.specs.Table.{startIn, countIn, restIn}
 use Rattle.listing.specs.Listing.{listed as listedIn, joined}
 use Rattle.calls.specs.Calls.{Areas, Sent, Call, callOf, lengthsOf, areaIn}
 use Rattle.refusals.specs.Refusals.{axesFit, releaseFits}
@@ -36,12 +36,16 @@ countOf m s = countIn m (content s)
 abbrev pub restOf : Message → Sent → List ℕ
 restOf m s = restIn m (content s)
 
--- a command ("Frame"): header, station, ID and content, an SC that is true or '@@', CR LF
+-- a frame ("Frame"): header, any bytes as its station, what it says (ID and content), any bytes as its SC, CR LF
+abbrev pub frameWith : List ℕ → List ℕ → List ℕ → List ℕ
+frameWith station said sc = command ∷ (station ++ (said ++ (sc ++ (CR ∷ LF ∷ []))))
+
+-- a command: the digits of its station, an SC that is true or '@@'
 abbrev pub before : ℕ → List ℕ → List ℕ
 before station said = command ∷ (digitsOf 2 station ++ said)
 
 abbrev pub commandOf : Bool → ℕ → List ℕ → List ℕ
-commandOf checked station said = before station said ++ (cond checked (scOf (before station said)) (text "@@") ++ (CR ∷ LF ∷ []))
+commandOf checked station said = frameWith (digitsOf 2 station) said (cond checked (scOf (before station said)) (text "@@"))
 
 -- a host whose commands are heard where the areas pass: its reply area is long enough (refusal 1), its axes fit (5), its release is 1 or 2 (13; 02, l),
 -- and two digits write its station
@@ -155,7 +159,8 @@ listRoom = 1011
 abbrev pub asksPoints : ℕ → ℕ → List ℕ
 asksPoints start count = text "209" ++ (digitsOf 3 start ++ digitsOf 3 count)
 
--- demand 2, after a 244H: a 209H of the same points lists each, as many as fit, with the very digits that were sent; and of any one of them, its own
+-- demand 2, after a 244H: a 209H of the same points lists each, as many as fit, with the very digits that were sent, in
+-- capitals; and of any one of them, its own
 pub record PointsRead (board : Conduct) (a : Areas) (m : Message) (s : Sent) (later : List Sent) : Type 0 where
   pub kind : m .tag ≡ pointsTag
   pub listed :
@@ -180,8 +185,6 @@ pub record Reads (board : Conduct) (a : Areas) (m : Message) (s : Sent) (later :
   pub flag-stored : m .id ≡ 0x24B → FlagStored a m s later
   pub points : m .id ≡ 0x244 → PointsRead board a m s later
   pub cleared : m .id ≡ 0x246 → PointsGone board a m s later
-  -- under release 1 what was sent is in capitals already (02, l), but for a 200H's ten bytes
-  pub as-sent : s .settings .release ≡ 1 → anyBytes (m .follows) ≡ false → capitals (content s) ≡ content s
 
 -- "slots with a non-zero pattern"
 abbrev pub effectiveOf : Areas → ℕ

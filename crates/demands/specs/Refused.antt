@@ -2,7 +2,6 @@
 use Prim.Native.Nat.{ℕ, _≤_, _<_}
 use mathlib.Core.Path.{_≡_}
 use mathlib.Core.Bool.{Bool, true, false, _||_}
-use mathlib.Core.Logic.{_⊎_}
 use mathlib.Core.List.{List, [], _∷_}
 use lib.Dec.{eqb}
 use lib.ListN.{length, drop}
@@ -44,7 +43,7 @@ pub record ChangesNothing : Type 0 where
   pub frame : (c : Call) → (answerOf c .number ≡ 0 → ⊥) → answerOf c .areas ≡ c .areas
   pub back : (a : Areas) → (backOf a .number ≡ 0 → ⊥) → backOf a .areas ≡ a
 
--- "one fixed reply, or none": below 100 none, from 101 the ten bytes that number and station give; from 9 on only 10 and 13 come before these
+-- "one fixed reply, or none": below 100 none, from 101 the ten bytes that number and station give
 pub record OneReply : Type 0 where
   pub none : (c : Call) → (answerOf c .number ≡ 0 → ⊥) → answerOf c .number < 100 → answerOf c .text ≡ []
   pub ten :
@@ -53,7 +52,6 @@ pub record OneReply : Type 0 where
   -- so the reply area is left as it was, or beyond its first ten bytes
   pub area-left : (c : Call) → (answerOf c .number ≡ 0 → ⊥) → answerOf c .number < 100 → laid (c .sent .reply) 0 (answerOf c .text) ≡ c .sent .reply
   pub beyond-ten : (c : Call) → 101 ≤ answerOf c .number → drop 10 (laid (c .sent .reply) 0 (answerOf c .text)) ≡ drop 10 (c .sent .reply)
-  pub no-other : (c : Call) → 9 ≤ answerOf c .number → (answerOf c .number ≡ 10) ⊎ (answerOf c .number ≡ 13) ⊎ (101 ≤ answerOf c .number)
   pub back : (a : Areas) → backOf a .text ≡ []
 
 -- "Granted that no refusal without a reply holds for the call, an error reply depends on frame, station, N and fitted axes only", and "may depend on

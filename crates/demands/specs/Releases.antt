@@ -1,19 +1,19 @@
 -- Demand 2 of cabinet releases: "release 1, capitals only; release 2, either, in ID, station, content and SC." (02, l)
-use Prim.Native.Nat.{ℕ, _≤_}
+use Prim.Native.Nat.{ℕ}
 use mathlib.Core.Path.{_≡_}
 use mathlib.Core.Bool.{false}
 use mathlib.Core.Logic.{_⊎_}
-use mathlib.Core.List.{List, [], _∷_, _++_}
-use lib.ListN.{length, take}
+use mathlib.Core.List.{List, _∷_, _++_}
+use lib.ListN.{take}
 use Rattle.digits.specs.Digits.{capitals, digitsOf}
 use Rattle.digits.specs.Text.{text}
-use Rattle.frames.specs.Frame.{command, CR, LF, stationIn, messageIn, contentIn, scIn, scOf}
+use Rattle.frames.specs.Frame.{command, stationIn, messageIn, contentIn, scIn, scOf}
 use Rattle.calls.specs.Calls.{Areas, Sent, Call, callOf}
 use Rattle.link.specs.declared.Answered.{Answered}
 use Rattle.link.specs.Contract.{Answers}
 use Rattle.demands.specs.History.{Conduct}
-use Rattle.demands.specs.Reading.{Host, asking}
-use Rattle.demands.specs.TestCalls.{handed, Unrefused}
+use Rattle.demands.specs.Reading.{frameWith, asking}
+use Rattle.demands.specs.TestCalls.{handed}
 
 -- a call under a release, whatever it was handed over with
 abbrev pub under : ℕ → Call → Call
@@ -21,9 +21,9 @@ under release c =
     callOf (c .sent .frame) (c .sent .axes) (record { station = c .sent .settings .station; release = release; fitted = c .sent .settings .fitted })
     (c .sent .reply) (c .areas)
 
--- no small letter stands in a field
+-- none of 'a' to 'f' stands there
 abbrev pub InCapitals : List ℕ → Type 0
-InCapitals field = capitals field ≡ field
+InCapitals bytes = capitals bytes ≡ bytes
 
 -- "release 1, capitals only": so a frame that is accepted has no small letter in ID, station and SC, nor in its content, but for a 200H's ten bytes
 pub record Plain (frame : List ℕ) : Type 0 where
@@ -35,24 +35,25 @@ pub record Plain (frame : List ℕ) : Type 0 where
 abbrev pub CapitalsOnly : Conduct → Type 0
 CapitalsOnly board = (c : Call) → board .answer (under 1 c) .number ≡ 0 → Plain (c .sent .frame)
 
--- a frame with any bytes as its station, what it says (ID and content) and its SC
-abbrev pub frameWith : List ℕ → List ℕ → List ℕ → List ℕ
-frameWith station said sc = command ∷ (station ++ (said ++ (sc ++ (CR ∷ LF ∷ []))))
-
--- in letters of either size: the station is the host's, and "the sum is always of the bytes as sent", or '@@'
-pub record EitherSize (h : Sent) (station said sc : List ℕ) : Type 0 where
+-- a frame in letters of either size, and what it says in capitals
+pub record EitherSize (h : Sent) (station said sc plain : List ℕ) : Type 0 where
+  -- the host's own station
   pub station-is : capitals station ≡ digitsOf 2 (h .settings .station)
+  -- "The sum is always of the bytes as sent", or '@@'
   pub sc-is : (capitals sc ≡ scOf (command ∷ (station ++ said))) ⊎ (sc ≡ text "@@")
-  pub least : 3 ≤ length said
-  pub most : length said ≤ 1016
   -- "200H's ten bytes stay as sent"
-  pub other : take 3 said ≡ text "200" → ⊥
+  pub test-call : take 3 said ≡ text "200" → plain ≡ said
+  pub other : (take 3 said ≡ text "200" → ⊥) → plain ≡ capitals said
 
--- "release 2, either": such a frame is answered as the same in capitals, with the same reply, over areas that no test refuses, from a host that is heard
+-- "release 2, either": such a frame is answered as the command with '@@' that says it in capitals: number, reply and areas
 abbrev pub Either : Conduct → Type 0
 Either board =
-    (a : Areas) → Unrefused a → (h : Sent) → Host h → h .settings .release ≡ 2 → (station said sc : List ℕ) → EitherSize h station said sc
-    → board .answer (handed a h (frameWith station said sc)) ≡ board .answer (asking a h false (capitals said))
+    (a : Areas) (h : Sent) → h .settings .release ≡ 2 → (station said sc plain : List ℕ) → EitherSize h station said sc plain
+    → board .answer (handed a h (frameWith station said sc)) ≡ board .answer (asking a h false plain)
+
+-- "Replies stay in capitals, and 200H's ten bytes stay as sent"
+abbrev pub RepliesInCapitals : Conduct → Type 0
+RepliesInCapitals board = (c : Call) → (messageIn (c .sent .frame) ≡ text "200" → ⊥) → InCapitals (board .answer c .text)
 
 -- "Any frame release 1 accepts, release 2 answers with the same bytes": number, reply and areas
 abbrev pub SameUnderTwo : Conduct → Type 0
@@ -61,6 +62,7 @@ SameUnderTwo board = (c : Call) → board .answer (under 1 c) .number ≡ 0 → 
 pub record Releases (board : Conduct) : Type 0 where
   pub capitals-only : CapitalsOnly board
   pub either : Either board
+  pub replies-in-capitals : RepliesInCapitals board
   pub same-under-two : SameUnderTwo board
 
 -- so for the contract of `answer`: every number and every lent byte

@@ -1,4 +1,4 @@
--- Document 01, "Each message", and document 02, request a: what a normal reply says after its station; source document 000, sections 4-3-8, 4-3-9
+-- Document 01, "Each message", and document 02, requests a and l: what a normal reply says after its station; source document 000, sections 4-3-8, 4-3-9
 -- and 4-3-11.
 use Prim.Native.Nat.{ℕ}
 use mathlib.Core.Bool.{cond}
@@ -10,11 +10,11 @@ use Rattle.pairs.specs.Pairs.{digitsIn}
 use Rattle.flags.specs.Flags.{eights}
 use Rattle.table.specs.declared.Message.{Message}
 
--- the message ID, as it was read
+-- the message ID, its number in capitals (02, l)
 abbrev pub idOf : Message → List ℕ
 idOf m = digitsOf 3 (m .id)
 
--- the ID and, where "the reply repeats these", program number 00, start and count, as they were read
+-- the ID and, where "the reply repeats these", program number 00, start and count, as the numbers that were read
 abbrev pub headOf : Message → ℕ → ℕ → List ℕ
 headOf m start count =
     idOf m ++ cond (m .repeats) (digitsOf (m .program) 0 ++ (digitsOf (m .start) start ++ digitsOf (m .count) count)) []

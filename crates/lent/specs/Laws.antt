@@ -17,7 +17,7 @@ SameEight =
     (frame : List ℕ) (records : List AxisRecord) (settings : Settings) (reply : List ℕ) (a : Areas) → length records ≡ 8
     → callOf frame (lentAxes records) settings reply a ≡ callOf frame (eightAxes records) settings reply a
 
--- refusal 5, "not eight axis records", wherever none of 1 to 4 holds
+-- refusal 5, "not eight axis records", wherever none of 1, 2, 3, 10 and 4 holds
 abbrev pub OtherCount : Type 0
 OtherCount =
     (frame : List ℕ) (records : List AxisRecord) (settings : Settings) (reply : List ℕ) (a : Areas) → (length records ≡ 8 → ⊥)

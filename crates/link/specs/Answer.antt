@@ -1,4 +1,4 @@
--- Document 01, "Each message", "Refusal numbers" and "Journal", and document 02, request a: what an answer and a step back leave.
+-- Document 01, "Each message", "Refusal numbers" and "Journal", and document 02, requests a and l: what an answer and a step back leave.
 use Prim.Native.Nat.{ℕ}
 use mathlib.Core.Bool.{cond}
 use mathlib.Core.List.{List, []}

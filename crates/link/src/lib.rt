@@ -1,4 +1,4 @@
-// The link: every frame answered, and the step back (document 01 whole, and document 02, request a).
+// The link: every frame answered, and the step back (document 01 whole, and document 02, requests a, c and l).
 use axes::Axes;
 use calls::Kept;
 use calls::Settings;

@@ -1,4 +1,4 @@
-// What a frame asks, 101 to 108 in the order tested: a read-only judgement (document 01, "Each message" and "Refusal numbers"; document 02, a).
+// What a frame asks, 101 to 108 in the order tested: a read-only judgement (document 01, "Each message" and "Refusal numbers"; document 02, a and l).
 use contents::content;
 use contents::is_long;
 use contents::is_unfit;
