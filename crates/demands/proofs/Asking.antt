@@ -9,7 +9,7 @@ use lib.Dec.{eqb, leb}
 use lib.ListN.{length, take, drop, length-append, length-drop}
 use lib.Seq.{length-take-le, take-all, take-take, take-at, drop-at, drop-drop}
 use borrow.Author.Tests.{le-ltb, le-leb, eq-eqb, ne-eqb}
-use Rattle.digits.specs.Digits.{capitals, digitsOf, admitted, allDigits, numberOf}
+use Rattle.digits.specs.Digits.{capitals, digitsOf, admitted, numberOf}
 use Rattle.digits.proofs.Inverse.{inverse, all-append}
 use Rattle.frames.specs.Frame.{normal, replyOf}
 use Rattle.frames.proofs.Bools.{and-false}

@@ -7,7 +7,7 @@ use native.Mathlib.Omega.{arith}
 use lib.Bits.{bitAnd}
 use lib.Dec.{eqb, leb}
 use lib.IntN.{pos}
-use lib.ListN.{length, take, drop, getD, length-drop}
+use lib.ListN.{length, drop, getD, length-drop}
 use lib.Seq.{length-take-le}
 use mir.Syntax.{w32}
 use mir.Val.{ofZ}
@@ -48,7 +48,7 @@ use Rattle.refusals.proofs.Rows.{call-passed}
 use Rattle.refusals.proofs.Tested.{shaped-long}
 use Rattle.orders.specs.Orders.{rest, saidBy}
 use Rattle.orders.proofs.Judging.{not-so}
-use Rattle.link.specs.Answer.{held, asked, textOf, answerOf}
+use Rattle.link.specs.Answer.{held, asked, textOf}
 use Rattle.demands.specs.History.{ours}
 use Rattle.demands.specs.Releases.{InCapitals, RepliesInCapitals}
 use Rattle.demands.proofs.Refused.{answer-either}

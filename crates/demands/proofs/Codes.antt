@@ -4,7 +4,7 @@ use mathlib.Core.Path.{_≡_, refl, sym, ap, ap₂, _∙_, subst}
 use mathlib.Core.Bool.{Bool, true, false}
 use mathlib.Core.List.{List, _++_, append-assoc}
 use native.Mathlib.Omega.{arith}
-use lib.ListN.{length, take, drop, length-take, length-drop, length-append, take-append-drop}
+use lib.ListN.{length, take, drop, length-take, length-drop, length-append}
 use lib.Seq.{length-take-le, take-add, take-all, take-at, drop-at}
 use borrow.Author.Tests.{eqb-true, ne-eqb}
 use Rattle.digits.specs.Digits.{byteOf, capitals, digitsOf, allDigits, numberOf}
@@ -24,7 +24,6 @@ use Rattle.points.proofs.Parts.{all-take, all-drop, all-part}
 use Rattle.table.specs.declared.Follows.the-variants.{Nothing, RunBytes}
 use Rattle.table.specs.declared.Action.the-variants.{ReadRun, ChangeRun}
 use Rattle.table.specs.declared.Message.{Message}
-use Rattle.table.specs.declared.Named.the-variants.{Known}
 use Rattle.table.specs.Table.{row, fieldsOf, startIn, countIn}
 use Rattle.heads.specs.Heads.{headOf, runText}
 use Rattle.calls.specs.Calls.{Areas, Sent, sentOf, lengthsOf, areaIn}

@@ -1,24 +1,23 @@
 -- Demand 2 of cabinet releases.
-use Prim.Native.Nat.{ℕ, zero, suc, _+_, _-_, _≤_, _<_}
+use Prim.Native.Nat.{ℕ, _+_, _-_, _≤_}
 use mathlib.Core.Path.{_≡_, refl, sym, ap, ap₂, _∙_, subst}
 use mathlib.Core.Bool.{Bool, true, false, cond, not, _&&_, _||_, true≢false}
-use mathlib.Core.Logic.{_⊎_, inl, inr, ⊎-elim}
-use mathlib.Core.List.{List, [], _∷_, _++_}
+use mathlib.Core.Logic.{_⊎_, inl, inr, ⊎-elim, _↔_}
+use mathlib.Core.List.{List, [], _∷_}
 use native.Mathlib.Omega.{arith}
 use lib.Bits.{bitAnd}
 use lib.Dec.{eqb, ltb, leb}
-use lib.ListN.{length, take, drop, getD, length-append, length-drop}
+use lib.ListN.{length, take, drop, getD, length-drop}
 use lib.Seq.{length-take-le}
 use borrow.Author.Tests.{eqb-true, eqb-false, ltb-true, ltb-false}
-use Rattle.digits.specs.Digits.{byteOf, capital, capitals, digitsOf, admitted, allDigits, numberOf}
+use Rattle.digits.specs.Digits.{capital, capitals, digitsOf, admitted, numberOf}
 use Rattle.digits.specs.Laid.{laid}
 use Rattle.digits.specs.Text.{text}
 use Rattle.digits.proofs.Inverse.{inverse, rules, and-left, and-right}
-use Rattle.digits.proofs.OneDigit.{below-letters}
 use Rattle.digits.proofs.Capitals.{length-capitals, take-capitals, drop-capitals}
 use Rattle.frames.specs.Frame.{command, normal, replyOf, stationIn, messageIn, contentIn, beforeSC, scIn, scOf, lowByte, shaped, saysNumber, sumTrue, sumOff, sumPasses, stationPasses}
 use Rattle.frames.proofs.Bools.{or-true, and-false}
-use Rattle.frames.proofs.Promised.{says-digits, true-sc}
+use Rattle.frames.proofs.Promised.{true-sc}
 use Rattle.frames.proofs.TestID.{is200, by-message, test-id}
 use Rattle.kinds.specs.declared.Held.{Held}
 use Rattle.kinds.specs.Kinds.{kindOf, heldIn}
@@ -29,12 +28,12 @@ use Rattle.table.specs.declared.Action.the-variants.{SayBack, CountPoints, List
 use Rattle.table.specs.declared.Message.{Message}
 use Rattle.table.specs.declared.Named.{Named}
 use Rattle.table.specs.declared.Named.the-variants.{Known, Unknown}
-use Rattle.table.specs.Table.{messages, namedIn, messageNumbered, messageOf, restIn, anyBytes}
+use Rattle.table.specs.Table.{messageNumbered, messageOf, restIn, anyBytes}
 use Rattle.messages.specs.declared.Asked.{Asked}
 use Rattle.messages.specs.declared.Asked.the-variants.{Refused, Order}
 use Rattle.messages.specs.Asked.{notDigits, askedOf, judged, numberGiven}
 use Rattle.messages.proofs.Judged.{Right, told, ordered, as-admitted}
-use Rattle.messages.proofs.Shapes.{in-frame, Shape, shaped as table-shape}
+use Rattle.messages.proofs.Shapes.{Shape, shaped as table-shape}
 use Rattle.messages.proofs.Capitals.{same-rest, same-judged}
 use Rattle.calls.specs.Calls.{Areas, Sent, Call, Outcome, lengthsOf, areaIn, written}
 use Rattle.refusals.specs.Refusals.{axesFit, releaseFits, silentOf}
@@ -42,13 +41,12 @@ use Rattle.refusals.proofs.Rows.{three, areaNumber, silent-is, past-silent, cal
 use Rattle.refusals.proofs.Tested.{shaped-long}
 use Rattle.queries.specs.Replies.{sameText, axesText}
 use Rattle.orders.specs.Orders.{rest, writes, newBytes, saidBy}
-use Rattle.orders.proofs.Judging.{not-so}
 use Rattle.link.specs.Answer.{held, asked, textOf, areasAfter, answerOf}
 use Rattle.link.proofs.Answering.{silent-answer, heard-answer, accepted}
 use Rattle.demands.specs.History.{ours}
 use Rattle.demands.specs.Reading.{frameWith, commandOf, asking}
 use Rattle.demands.specs.TestCalls.{handed}
-use Rattle.demands.specs.Releases.{under, Plain, CapitalsOnly, EitherSize, Either, SameUnderTwo, Releases, SameAnswer}
+use Rattle.demands.specs.Releases.{under, CapitalsOnly, EitherSize, Either, SameUnderTwo, Releases, SameAnswer}
 use Rattle.demands.proofs.Sole.{one-answer}
 use Rattle.demands.proofs.Capitals.{id-200, known-id, no-letters, replies-in-capitals}
 use Rattle.demands.proofs.Commands.{testFits, begun, framed, framed-long, is-message, shape-is, is-content, too-short, is-sc, is-begun, high, low, off, messageNamed, message-of}
@@ -271,25 +269,25 @@ module _ (a : Areas) (h : Sent) (f g : List ℕ) where
           silent-answer c (silentOf c) refl z ∙ sym (silent-answer d (silentOf c) silent-same z)
 
 -- a text is a 200H's, or not; '200' has no letters
+by-id : (said : List ℕ) → (is200 (take 3 said) ≡ true) ↔ (take 3 said ≡ text "200")
+by-id said =
+    -- as a frame's ID, whatever stands before it
+    let f = begun 0 0 said in
+    let b = by-message f (take 3 said) refl in
+    (λ e. test-id f .0 (b ∙ e), λ q. sym b ∙ test-id f .1 q)
+
 is-200 : (said : List ℕ) → (take 3 said ≡ text "200") ⊎ (take 3 said ≡ text "200" → ⊥)
 is-200 said = go (is200 (take 3 said)) refl
   where
-    -- as a frame's ID: whatever stands before it
-    frame : List ℕ
-    frame = begun 0 0 said
-
     go : (b : Bool) → is200 (take 3 said) ≡ b → (take 3 said ≡ text "200") ⊎ (take 3 said ≡ text "200" → ⊥)
-    go true e = inl (test-id frame .0 (by-message frame (take 3 said) refl ∙ e))
-    go false e = inr (λ q. true≢false (sym (sym (by-message frame (take 3 said) refl) ∙ test-id frame .1 q) ∙ e))
+    go true e = inl (by-id said .0 e)
+    go false e = inr (λ q. true≢false (sym (by-id said .1 q) ∙ e))
 
 other-fits : (said : List ℕ) → (take 3 said ≡ text "200" → ⊥) → testFits said ≡ true
 other-fits said other = go (is200 (take 3 said)) refl
   where
-    frame : List ℕ
-    frame = begun 0 0 said
-
     go : (b : Bool) → is200 (take 3 said) ≡ b → not b || eqb (length said) 13 ≡ true
-    go true e = absurd (other (test-id frame .0 (by-message frame (take 3 said) refl ∙ e)))
+    go true e = absurd (other (by-id said .0 e))
     go false e = refl
 
 other-capitals : (said : List ℕ) → (take 3 said ≡ text "200" → ⊥) → take 3 (capitals said) ≡ text "200" → ⊥
@@ -363,6 +361,10 @@ done-alike a h f g (Order m start count) w =
     let r = ap (λ (b : List ℕ). cond (writes (m .does)) (written hold (m .tag) start count b a) a) (k .2 (kindOf hold (m .tag) .unit)) in
     λ i. record { number = 0; text = replyOf normal (h .settings .station) (t i); areas = r i }
 
+-- what holds under release 2 holds of a host of that release
+at-two : {r : ℕ} → r ≡ 2 → (P : ℕ → Type 0) → P 2 → P r
+at-two e P p = subst P (sym e) p
+
 -- the same text with another station and another SC, both of which pass
 module _ (a : Areas) (h : Sent) (e : h .settings .release ≡ 2) (x y : ℕ) (said sc : List ℕ)
     (st : capitals (x ∷ y ∷ []) ≡ digitsOf 2 (h .settings .station)) (su : (capitals sc ≡ scOf (begun x y said)) ⊎ (sc ≡ text "@@")) where
@@ -374,10 +376,6 @@ module _ (a : Areas) (h : Sent) (e : h .settings .release ≡ 2) (x y : ℕ) (sa
 
   abbrev command-off : List ℕ
   command-off = commandOf false station said
-
-  -- what holds under release 2 holds of the host
-  so : (P : ℕ → Type 0) → P 2 → P (h .settings .release)
-  so P p = subst P (sym e) p
 
   sc-long : length sc ≡ 2
   sc-long = ⊎-elim (λ q. sym (length-capitals sc) ∙ ap length q ∙ inverse 2 .as-many (lowByte (begun x y said))) (λ q. ap length q) su
@@ -424,8 +422,8 @@ module _ (a : Areas) (h : Sent) (e : h .settings .release ≡ 2) (x y : ℕ) (sa
       let r = h .settings .release in
       record {
         shape = same-shape x y (high station) (low station) said said sc (text "@@") sc-long refl refl refl;
-        sum = so (λ (k : ℕ). sumPasses k sent ≡ sumPasses k command-off) (sum-passes ∙ sym (off 2 (high station) (low station) said));
-        station = so (λ (k : ℕ). stationPasses k station sent ≡ stationPasses k station command-off) same-station;
+        sum = at-two e (λ (k : ℕ). sumPasses k sent ≡ sumPasses k command-off) (sum-passes ∙ sym (off 2 (high station) (low station) said));
+        station = at-two e (λ (k : ℕ). stationPasses k station sent ≡ stationPasses k station command-off) same-station;
         asks = λ s.
             ap₂ (λ (n : Named) (t : List ℕ). judged (heldIn (lengthsOf a)) (h .settings .fitted) r n t)
             (message-of r sent (messageIn command-off) (same-id s) ∙ sym (message-of r command-off (messageIn command-off) refl))
@@ -450,9 +448,6 @@ module _ (a : Areas) (h : Sent) (e : h .settings .release ≡ 2) (said : List �
 
   abbrev Y : ℕ
   Y = low (h .settings .station)
-
-  under-two : (P : ℕ → Type 0) → P 2 → P (h .settings .release)
-  under-two P p = subst P (sym e) p
 
   module _ (s : shaped as-is ≡ true) where
     long : 3 ≤ length said
@@ -479,9 +474,9 @@ module _ (a : Areas) (h : Sent) (e : h .settings .release ≡ 2) (said : List �
         let n = messageNamed r (take 3 said) in
         let id : messageOf r as-capitals ≡ n =
         message-of r as-capitals (capitals (take 3 said)) id-capitals
-        ∙ under-two (λ (k : ℕ). messageNamed k (capitals (take 3 said)) ≡ messageNamed k (take 3 said)) (same-named (take 3 said)) in
+        ∙ at-two e (λ (k : ℕ). messageNamed k (capitals (take 3 said)) ≡ messageNamed k (take 3 said)) (same-named (take 3 said)) in
         ap₂ (λ (k : Named) (t : List ℕ). judged H F r k t) (message-of r as-is (take 3 said) (is-message X Y said (text "@@") refl long)) body
-        ∙ sym (under-two (λ (k : ℕ). judged H F k n (capitals (drop 3 said)) ≡ judged H F k n (drop 3 said)) (same-judged H F n (drop 3 said)))
+        ∙ sym (at-two e (λ (k : ℕ). judged H F k n (capitals (drop 3 said)) ≡ judged H F k n (drop 3 said)) (same-judged H F n (drop 3 said)))
         ∙ sym (ap₂ (λ (k : Named) (t : List ℕ). judged H F r k t) id body-capitals)
 
     rest-capitals : (m : Message) → rest (handed a h as-capitals .sent) m ≡ capitals (rest (handed a h as-is .sent) m)

@@ -1,7 +1,7 @@
 -- Areas of document 01's lengths whose journal holds good entries: no test of an area refuses them.
 use Prim.Native.Nat.{ℕ, _*_, _/_, _%_, _≤_}
 use mathlib.Core.Path.{_≡_, ap, ap₂, _∙_}
-use mathlib.Core.Bool.{Bool, true, cond, not, _&&_}
+use mathlib.Core.Bool.{Bool, true, cond, _&&_}
 use mathlib.Core.List.{List}
 use native.Mathlib.Omega.{arith}
 use lib.Dec.{eqb, ltb}
@@ -18,7 +18,7 @@ use Rattle.journal.proofs.Again.{Again, again}
 use Rattle.messages.specs.Rows.{firstOf}
 use Rattle.messages.specs.Asked.{askedRows, askedOf}
 use Rattle.calls.specs.Calls.{Areas, Sent, lengthsOf, areaIn, entriesOf}
-use Rattle.refusals.specs.Refusals.{pointsFit, variablesFit, leastJournal, journalFits, axesFit, refusalOf, backRefusalOf}
+use Rattle.refusals.specs.Refusals.{pointsFit, variablesFit, leastJournal, journalFits, refusalOf, backRefusalOf}
 use Rattle.refusals.proofs.Rows.{AreasPass, past-areas, back-rows, ownNumber, refusal-is}
 use Rattle.demands.specs.Refused.{asksWrite}
 use Rattle.demands.specs.History.{messageBy, ours, callOn, acceptedWrite, entries}

@@ -1,14 +1,13 @@
 -- Every test call is found whole and said back.
 use Prim.Native.Nat.{ℕ, _+_, _-_, _/_, _%_, _<_}
 use mathlib.Core.Path.{_≡_, refl, sym, ap, ap₂, _∙_}
-use mathlib.Core.Bool.{Bool, true, false, cond, not}
+use mathlib.Core.Bool.{Bool, true, false, cond}
 use mathlib.Core.List.{List, [], _∷_, _++_}
 use native.Mathlib.Nat.{add-sub-cancel-left}
 use native.Mathlib.Omega.{arith}
 use lib.ListN.{length, take, drop, getD, length-append, length-drop}
 use lib.Seq.{length-take-le, take-at, drop-at, drop-append-le}
 use borrow.Author.Tests.{le-ltb, le-leb, eq-eqb, eqb-true}
-use Rattle.digits.specs.Digits.{byteOf}
 use Rattle.digits.specs.Text.{text}
 use Rattle.digits.proofs.OneDigit.{byte-least}
 use Rattle.frames.specs.Frame.{CR, LF, normal, replyOf, messageIn, contentIn, scOf, shaped}
@@ -24,7 +23,7 @@ use Rattle.table.specs.declared.Named.{Named}
 use Rattle.messages.specs.Asked.{askedOf, judged, numberGiven}
 use Rattle.messages.proofs.Judged.{Right, ordered}
 use Rattle.calls.specs.Calls.{Areas, Sent, Call, Outcome, lengthsOf}
-use Rattle.refusals.specs.Refusals.{axesFit, silentOf}
+use Rattle.refusals.specs.Refusals.{silentOf}
 use Rattle.refusals.proofs.Rows.{area-rows, areas-pass, past-areas, ownNumber, silent-is, call-passed}
 use Rattle.refusals.proofs.Tested.{shape}
 use Rattle.link.specs.Answer.{held, asked, answerOf}

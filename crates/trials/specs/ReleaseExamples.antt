@@ -3,9 +3,9 @@
 use Prim.Native.Nat.{ℕ, _+_}
 use Prim.Native.String.{String}
 use mathlib.Core.Path.{_≡_}
-use mathlib.Core.Bool.{Bool, true, cond, not, _&&_}
+use mathlib.Core.Bool.{cond, not, _&&_}
 use mathlib.Core.Logic.{_⊎_}
-use mathlib.Core.List.{List, [], _++_, map}
+use mathlib.Core.List.{[], _++_, map}
 use lib.Dec.{eqb}
 use lib.ListN.{drop, replicate}
 use Rattle.digits.specs.Digits.{within, admitted, capital, capitals}
