@@ -228,23 +228,22 @@ module _ (c : Call) (m : Message) (start count : ℕ) where
   of-said SetFlag n = of-head m start count
 
 -- a 200H alone says its text back
-not-said-back : (c : Call) → (messageIn (c .sent .frame) ≡ text "200" → ⊥) → silentOf c ≡ 0 → (m : Message) (start count : ℕ) → asked c ≡ Order m start count
-    → m .does ≡ SayBack → ⊥
+pub not-said-back : (c : Call) → (messageIn (c .sent .frame) ≡ text "200" → ⊥) → 6 ≤ length (c .sent .frame) → (m : Message) (start count : ℕ)
+    → asked c ≡ Order m start count → m .does ≡ SayBack → ⊥
 unfolding askedOf
-not-said-back c other z m start count q d =
+not-said-back c other l m start count q d =
     let f = c .sent .frame in
     let r = c .sent .settings .release in
     let t = told (held c) (c .sent .settings .fitted) r (messageOf r f) (contentIn f) m start count q in
     let w : Shape SayBack m = subst (λ (x : Action). Shape x m) d (shaped r f m (t .message) .shape) in
-    let l = shaped-long f (call-passed c z .shape) in
-    other (id-200 r f (t .message) (omega arith) (ap anyBytes (w .1)))
+    other (id-200 r f (t .message) l (ap anyBytes (w .1)))
 
 of-text : (c : Call) → (messageIn (c .sent .frame) ≡ text "200" → ⊥) → silentOf c ≡ 0 → (x : Asked) → asked c ≡ x → InCapitals (textOf c x)
 unfolding capital
 of-text c other z (Refused k) q = of-error (c .sent .settings .station) k
 of-text c other z (Order m start count) q =
     of-reply normal (c .sent .settings .station) (saidBy (m .does) (held c) (c .sent) m start count (areaIn (m .tag) (c .areas))) refl
-    (of-said c m start count (m .does) (not-said-back c other z m start count q))
+    (of-said c m start count (m .does) (not-said-back c other (omega (arith, shaped-long (c .sent .frame) (call-passed c z .shape))) m start count q))
 
 pub replies-in-capitals : RepliesInCapitals ours
 replies-in-capitals c other =

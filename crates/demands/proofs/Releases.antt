@@ -33,7 +33,6 @@ use Rattle.messages.specs.declared.Asked.{Asked}
 use Rattle.messages.specs.declared.Asked.the-variants.{Refused, Order}
 use Rattle.messages.specs.Asked.{notDigits, askedOf, judged, numberGiven}
 use Rattle.messages.proofs.Judged.{Right, told, ordered, as-admitted}
-use Rattle.messages.proofs.Shapes.{Shape, shaped as table-shape}
 use Rattle.messages.proofs.Capitals.{same-rest, same-judged}
 use Rattle.calls.specs.Calls.{Areas, Sent, Call, Outcome, lengthsOf, areaIn, written}
 use Rattle.refusals.specs.Refusals.{axesFit, releaseFits, silentOf}
@@ -48,7 +47,7 @@ use Rattle.demands.specs.Reading.{frameWith, commandOf, asking}
 use Rattle.demands.specs.TestCalls.{handed}
 use Rattle.demands.specs.Releases.{under, CapitalsOnly, EitherSize, Either, SameUnderTwo, Releases, SameAnswer}
 use Rattle.demands.proofs.Sole.{one-answer}
-use Rattle.demands.proofs.Capitals.{id-200, known-id, no-letters, replies-in-capitals}
+use Rattle.demands.proofs.Capitals.{id-200, known-id, no-letters, not-said-back, replies-in-capitals}
 use Rattle.demands.proofs.Commands.{testFits, begun, framed, framed-long, is-message, shape-is, is-content, too-short, is-sc, is-begun, high, low, off, messageNamed, message-of}
 
 -- what stands in a field that says a number is admitted, and what passes under release 1 passes under release 2
@@ -484,14 +483,9 @@ module _ (a : Areas) (h : Sent) (e : h .settings .release ≡ 2) (said : List �
 
     -- the order isn't a 200H's
     not-test : (m : Message) (start count : ℕ) → asked (handed a h as-capitals) ≡ Order m start count → m .does ≡ SayBack → ⊥
-    unfolding askedOf
-    not-test m start count q d =
-        let r = h .settings .release in
-        let t = told (held (handed a h as-capitals)) (h .settings .fitted) r (messageOf r as-capitals) (contentIn as-capitals) m start count q in
-        let w : Shape SayBack m = subst (λ (k : Action). Shape k m) d (table-shape r as-capitals m (t .message) .shape) in
-        let l = framed-long X Y (capitals said) (text "@@") refl in
-        let i = id-200 r as-capitals (t .message) (omega (arith, l, long-capitals)) (ap anyBytes (w .1)) in
-        other (no-letters (take 3 said) (sym id-capitals ∙ i))
+    not-test =
+        not-said-back (handed a h as-capitals) (λ i. other (no-letters (take 3 said) (sym id-capitals ∙ i)))
+        (omega (arith, framed-long X Y (capitals said) (text "@@") refl, long-capitals))
 
   capitals-alike : Alike a h as-is as-capitals
   unfolding stationPasses
