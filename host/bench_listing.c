@@ -3,8 +3,9 @@
  *
  * The input is received in pieces of every length, found, answered, then stepped back and queried. Then
  * test calls with line ends in them are received so, integer variables and flags are written, queried and
- * stepped back, and frames in small letters are answered under each cabinet release. Exits 0 where all is
- * as the listing and the documents say, 1 at the first difference.
+ * stepped back, frames in small letters are answered under each cabinet release, and frames with true and
+ * wrong SCs and '@@' with that allowed and forbidden. Exits 0 where all is as the listing and the documents
+ * say, 1 at the first difference.
  */
 #include "cabinet.h"
 
@@ -315,6 +316,50 @@ static int play_releases(void)
     return wrong;
 }
 
+static int sums_failed(const char *what)
+{
+    fprintf(stderr, "sums: %s\n", what);
+    return 1;
+}
+
+/* One command whose number, reply and sum are known. */
+static int tells(const char *command, enum cabinet_refusal number, const char *expected, enum cabinet_sum sum)
+{
+    board.sum = GUARD;
+    return answers(command, number, expected) && board.sum == sum;
+}
+
+/* What is the same whether '@@' is allowed or not; told with a later refusal, and not with an earlier one. */
+static int tells_other_sums(void)
+{
+    return tells("!992082D\r\n", CABINET_ACCEPTED, "#99208000BF\r\n", CABINET_SUM_TRUE) &&
+           tells("!992082E\r\n", CABINET_REFUSED_SC, "", CABINET_SUM_WRONG) &&
+           tells("!99208@D\r\n", CABINET_REFUSED_SC, "", CABINET_SUM_WRONG) &&
+           tells("!992082@\r\n", CABINET_REFUSED_SC, "", CABINET_SUM_WRONG) &&
+           tells("!9A20835\r\n", CABINET_REFUSED_STATION, "", CABINET_SUM_TRUE) &&
+           tells("!9929937\r\n", CABINET_REFUSED_MESSAGE, "&991012A\r\n", CABINET_SUM_TRUE) &&
+           tells("!99208@@\r", CABINET_REFUSED_FRAME, "", CABINET_SUM_UNTESTED);
+}
+
+/* '@@' allowed, as where the field isn't set, and forbidden by any other value. */
+static int play_sums(void)
+{
+    static const char write[] = "!9924E0012C0130@@\r\n";
+    start_fresh();
+    if (!tells_other_sums() || !tells("!99208@@\r\n", CABINET_ACCEPTED, "#99208000BF\r\n", CABINET_SUM_SWITCHED_OFF) ||
+        !tells("!9A208@@\r\n", CABINET_REFUSED_STATION, "", CABINET_SUM_SWITCHED_OFF) ||
+        !tells("!99299@@\r\n", CABINET_REFUSED_MESSAGE, "&991012A\r\n", CABINET_SUM_SWITCHED_OFF))
+        return sums_failed("'@@' allowed");
+    for (board.forbid_unchecked = 1; board.forbid_unchecked != 0; board.forbid_unchecked <<= 1)
+        if (!tells_other_sums() || !tells("!9A208@@\r\n", CABINET_REFUSED_UNCHECKED, "", CABINET_SUM_SWITCHED_OFF) ||
+            !tells(write, CABINET_REFUSED_UNCHECKED, "", CABINET_SUM_SWITCHED_OFF) || !areas_are(0))
+            return sums_failed("'@@' forbidden");
+    if (!tells(write, CABINET_ACCEPTED, "#9924E40\r\n", CABINET_SUM_SWITCHED_OFF) || !steps_back(CABINET_ACCEPTED) ||
+        board.sum != CABINET_SUM_UNTESTED || !areas_are(0))
+        return sums_failed("written and stepped back");
+    return 0;
+}
+
 int main(void)
 {
     size_t piece;
@@ -324,7 +369,7 @@ int main(void)
     for (piece = 1; piece < sizeof test_calls; piece++)
         if (play_test_calls(piece) != 0)
             return 1;
-    if (play_variables() != 0 || play_releases() != 0)
+    if (play_variables() != 0 || play_releases() != 0 || play_sums() != 0)
         return 1;
     printf("bench listing: every byte as document 01 has it, in pieces of 1 to %lu\n",
            (unsigned long)(sizeof input - 1));
@@ -332,5 +377,6 @@ int main(void)
            (unsigned long)(sizeof test_calls - 1));
     printf("integers and flags: written, queried, refused and stepped back as the documents say\n");
     printf("small letters: refused under release 1, accepted under release 2, replied in capitals\n");
+    printf("sums: true, switched off and wrong told, '@@' accepted where it is allowed and refused where not\n");
     return 0;
 }

@@ -24,6 +24,7 @@
 
 #define STATION 0x99
 #define RELEASE CABINET_CAPITALS_ONLY
+#define UNCHECKED 1
 #define FITTED 0xFF
 #define FIRST_INTEGER 200
 #define FIRST_FLAG 600
@@ -51,7 +52,8 @@ struct calls {
     uint8_t (*receive)(const uint8_t *, size_t, size_t *, size_t *, size_t *);
     uint16_t (*answer)(const uint8_t *, size_t, uint8_t *, size_t, uint8_t *, size_t, uint8_t *, size_t,
                        uint8_t *, size_t, uint8_t *, size_t, size_t *, const uint8_t *, size_t,
-                       uint8_t, uint8_t, uint8_t, uint16_t, uint16_t, uint8_t *, size_t, size_t *);
+                       uint8_t, uint8_t, uint8_t, uint8_t, uint16_t, uint16_t, uint8_t *, size_t, size_t *,
+                       uint8_t *);
     uint16_t (*step_back)(uint8_t *, size_t, uint8_t *, size_t, uint8_t *, size_t, uint8_t *, size_t,
                           uint8_t *, size_t, size_t *, uint16_t, uint16_t);
 };
@@ -71,6 +73,7 @@ struct board {
     size_t used;
     size_t reply_length;
     size_t start, length, drop;
+    uint8_t sum;
     uint8_t points[CABINET_POINTS_BYTES(CABINET_MOST_POINTS)];
     uint8_t columns[CABINET_COLUMNS_BYTES];
     uint8_t integers[CABINET_INTEGERS_BYTES];
@@ -109,8 +112,8 @@ static unsigned make_call(const struct calls *calls)
                              CABINET_POINTS_BYTES(trial.held), work.columns, CABINET_COLUMNS_BYTES,
                              work.integers, CABINET_INTEGERS_BYTES, work.flags, CABINET_FLAGS_BYTES,
                              work.journal, trial.journal_length, &work.used, trial.axes,
-                             CABINET_AXES_BYTES, FITTED, STATION, RELEASE, FIRST_INTEGER, FIRST_FLAG,
-                             work.reply, CABINET_REPLY_BYTES, &work.reply_length);
+                             CABINET_AXES_BYTES, FITTED, STATION, RELEASE, UNCHECKED, FIRST_INTEGER, FIRST_FLAG,
+                             work.reply, CABINET_REPLY_BYTES, &work.reply_length, &work.sum);
     if (trial.kind == STEP_BACK)
         return calls->step_back(work.points, CABINET_POINTS_BYTES(trial.held),
                                 work.columns, CABINET_COLUMNS_BYTES,
@@ -281,7 +284,7 @@ static void close_frame(size_t from, unsigned off)
 
 static void compare(const struct board *one, const struct board *other)
 {
-    if (one->used != other->used || one->reply_length != other->reply_length)
+    if (one->used != other->used || one->reply_length != other->reply_length || one->sum != other->sum)
         fail("another used length or reply's length");
     if (one->start != other->start || one->length != other->length || one->drop != other->drop)
         fail("another place was found");

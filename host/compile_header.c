@@ -2,15 +2,15 @@
 #include "cabinet.h"
 #include "cabinet.h"
 
-#if CABINET_VERSION < 4
+#if CABINET_VERSION < 5
 #error "an older cabinet.h"
 #endif
 
 typedef uint8_t receive_call(const uint8_t *, size_t, size_t *, size_t *, size_t *);
 typedef uint16_t answer_call(const uint8_t *, size_t, uint8_t *, size_t, uint8_t *, size_t,
                              uint8_t *, size_t, uint8_t *, size_t, uint8_t *, size_t, size_t *,
-                             const uint8_t *, size_t, uint8_t, uint8_t, uint8_t, uint16_t, uint16_t,
-                             uint8_t *, size_t, size_t *);
+                             const uint8_t *, size_t, uint8_t, uint8_t, uint8_t, uint8_t, uint16_t, uint16_t,
+                             uint8_t *, size_t, size_t *, uint8_t *);
 typedef uint16_t step_back_call(uint8_t *, size_t, uint8_t *, size_t, uint8_t *, size_t, uint8_t *, size_t,
                                 uint8_t *, size_t, size_t *, uint16_t, uint16_t);
 typedef uint16_t answer_frame_call(struct cabinet *, const uint8_t *, size_t);
@@ -41,10 +41,11 @@ int host_in_both_languages(const uint8_t *frame, size_t frame_length)
     board.fitted = 0xFF;
     board.station = 0x99;
     board.release = CABINET_SMALL_LETTERS_TOO;
+    board.forbid_unchecked = 1;
     board.first_integer = 200;
     board.first_flag = 600;
     if (cabinet_answer_frame(&board, frame, frame_length) != CABINET_ACCEPTED)
-        return 0;
+        return board.sum == CABINET_SUM_SWITCHED_OFF ? 4 : 0;
     switch (cabinet_take_back(&board)) {
     case CABINET_ACCEPTED: return 1;
     case CABINET_REFUSED_NO_WRITE_LEFT: return 2;
@@ -59,5 +60,7 @@ typedef char lengths_are_right[
     CABINET_INTEGERS_BYTES == 400 && CABINET_FLAGS_BYTES == 300 && CABINET_AXES_BYTES == 72 ? 1 : -1];
 typedef char numbers_are_right[
     CABINET_ACCEPTED == 0 && CABINET_REFUSED_NO_WRITE_LEFT == 9 && CABINET_REFUSED_MESSAGE == 101 &&
-    CABINET_REFUSED_PATTERN == 107 && CABINET_REFUSED_VARIABLES == 10 && CABINET_REFUSED_CHANGE_TYPE == 108 &&
-    CABINET_TOO_LONG == 3 ? 1 : -1];
+    CABINET_REFUSED_PATTERN == 107 && CABINET_REFUSED_VARIABLES == 10 && CABINET_REFUSED_UNCHECKED == 12 &&
+    CABINET_REFUSED_RELEASE == 13 && CABINET_REFUSED_CHANGE_TYPE == 108 && CABINET_TOO_LONG == 3 &&
+    CABINET_SUM_UNTESTED == 0 && CABINET_SUM_TRUE == 1 && CABINET_SUM_SWITCHED_OFF == 2 &&
+    CABINET_SUM_WRONG == 3 ? 1 : -1];

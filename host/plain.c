@@ -1,5 +1,5 @@
 /*
- * plain.c: the board's three calls, written plainly by hand from documents 01, 02 (requests a, c, l) and 000.
+ * plain.c: the board's three calls, written plainly by hand from documents 01, 02 (requests a, c, f, l) and 000.
  *
  * No heap and no second buffers: replies are written where they are lent, old bytes go straight into
  * the journal. A frame is read once for its sum and once for its fields. Any bytes and any lengths
@@ -355,8 +355,11 @@ static int has_shape(const uint8_t *frame, size_t length)
            is_pair(frame + length - 2) && (length == TEST_CALL_FRAME || !is_test_call(frame + ID_AT));
 }
 
-/* Test 7; on the way, *digits becomes 0 where a content byte isn't a digit under this rule. */
-static int has_good_sc(const uint8_t *frame, size_t length, unsigned rule, unsigned *digits)
+/* What the sum test says, as an answer tells it. */
+enum { UNTESTED = 0, TRUE_SC = 1, SWITCHED_OFF = 2, WRONG_SC = 3 };
+
+/* The sum test; on the way, *digits becomes 0 where a content byte isn't a digit under this rule. */
+static uint8_t sum_test(const uint8_t *frame, size_t length, unsigned rule, unsigned *digits)
 {
     const uint8_t *sc = frame + length - END;
     unsigned sum = 0, all = rule;
@@ -368,8 +371,9 @@ static int has_good_sc(const uint8_t *frame, size_t length, unsigned rule, unsig
         all &= digit[frame[i]];
     }
     *digits = all;
-    return (sc[0] == '@' && sc[1] == '@') ||
-           (two(sc) == (sum & 255) && are_digits(sc, rule));
+    if (two(sc) == (sum & 255) && are_digits(sc, rule))
+        return TRUE_SC;
+    return sc[0] == '@' && sc[1] == '@' ? SWITCHED_OFF : WRONG_SC;
 }
 
 /* Test 8. */
@@ -818,10 +822,14 @@ static unsigned rule_of(uint8_t release)
     return release == 1 ? CAPITALS_ONLY : release == 2 ? SMALL_TOO : 0;
 }
 
-/* Tests 5 to 8, with 13 after 5; 0 where none holds. *digits is what test 7 finds of the content. */
+/*
+ * Tests 5 to 8, with 13 after 5 and 12 in 7's place; 0 where none holds. *sum is what the sum test says,
+ * where none before it refuses, and *digits what it finds of the content.
+ */
 static uint16_t test_frame(const uint8_t *frame, size_t frame_length,
                            const uint8_t *axes, size_t axes_length,
-                           uint8_t fitted, uint8_t station, unsigned rule, unsigned *digits)
+                           uint8_t fitted, uint8_t station, unsigned rule, uint8_t unchecked,
+                           uint8_t *sum, unsigned *digits)
 {
     if (!axes_are_good(axes, axes_length, fitted))
         return 5;
@@ -829,8 +837,11 @@ static uint16_t test_frame(const uint8_t *frame, size_t frame_length,
         return 13;
     if (!has_shape(frame, frame_length))
         return 6;
-    if (!has_good_sc(frame, frame_length, rule, digits))
+    *sum = sum_test(frame, frame_length, rule, digits);
+    if (*sum == WRONG_SC)
         return 7;
+    if (*sum == SWITCHED_OFF && unchecked == 0)
+        return 12;
     return has_station(frame, station, rule) ? 0 : 8;
 }
 
@@ -849,9 +860,10 @@ uint16_t plain_answer(const uint8_t *frame, size_t frame_length,
                       uint8_t *flags, size_t flags_length,
                       uint8_t *journal, size_t journal_length, size_t *used,
                       const uint8_t *axes, size_t axes_length,
-                      uint8_t fitted, uint8_t station, uint8_t release,
+                      uint8_t fitted, uint8_t station, uint8_t release, uint8_t unchecked,
                       uint16_t first_integer, uint16_t first_flag,
-                      uint8_t *reply, size_t reply_area_length, size_t *reply_length)
+                      uint8_t *reply, size_t reply_area_length, size_t *reply_length,
+                      uint8_t *sum)
 {
     struct areas areas = {points, 0, columns, integers, first_integer, 0, flags, first_flag, 0,
                           journal, journal_length, *used, 0};
@@ -860,11 +872,13 @@ uint16_t plain_answer(const uint8_t *frame, size_t frame_length,
     unsigned rule = rule_of(release), digits = 0;
     uint16_t number;
     *reply_length = 0;
+    *sum = UNTESTED;
     if (reply_area_length < LONGEST_REPLY)
         return 1;
     number = test_areas(&areas, points_length, columns_length, integers_length, flags_length);
     if (number == 0)
-        number = test_frame(frame, frame_length, axes, axes_length, fitted, station, rule, &digits);
+        number = test_frame(frame, frame_length, axes, axes_length, fitted, station, rule, unchecked,
+                            sum, &digits);
     if (number != 0)
         return number;
     asked = read_frame(frame, frame_length, rule);

@@ -25,9 +25,10 @@ uint16_t plain_answer(const uint8_t *frame, size_t frame_length,
                       uint8_t *flags, size_t flags_length,
                       uint8_t *journal, size_t journal_length, size_t *used,
                       const uint8_t *axes, size_t axes_length,
-                      uint8_t fitted, uint8_t station, uint8_t release,
+                      uint8_t fitted, uint8_t station, uint8_t release, uint8_t unchecked,
                       uint16_t first_integer, uint16_t first_flag,
-                      uint8_t *reply, size_t reply_area_length, size_t *reply_length);
+                      uint8_t *reply, size_t reply_area_length, size_t *reply_length,
+                      uint8_t *sum);
 
 uint16_t plain_step_back(uint8_t *points, size_t points_length,
                          uint8_t *columns, size_t columns_length,

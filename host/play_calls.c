@@ -3,7 +3,8 @@
  *
  * Reads operations from standard input until its end and writes what each call leaves to standard
  * output. Every area is an allocation of its lent bytes and the guards on both sides, no more. Exits 2
- * where the operations are malformed or there is no memory, 3 where what it writes isn't taken.
+ * where the operations are malformed or there is no memory, 3 where what it writes isn't taken, 4 where a
+ * call wrote beside the sum, which is an allocation of one byte with guards of its own.
  */
 #include "cabinet.h"
 
@@ -13,6 +14,7 @@
 
 #define GUARD 0xC7       /* fills the guards */
 #define UNSET 0x55555555 /* stands in each out number before the call */
+#define UNSET_SUM 0x55   /* stands in the sum before the call */
 
 enum { HANDED, POINTS, COLUMNS, INTEGERS, FLAGS, JOURNAL, AXES, REPLY, PARTS };
 
@@ -23,6 +25,7 @@ struct area {
 };
 
 static struct area area[PARTS];
+static struct area sum; /* one byte */
 static size_t guard;
 
 static void fail(const char *why, int code)
@@ -115,6 +118,7 @@ static void set_guard(void)
     guard = (size_t)number(4);
     for (named = 0; named < PARTS; named++)
         lend(&area[named], 0);
+    lend(&sum, 1);
 }
 
 static void set_length(void)
@@ -184,10 +188,19 @@ static void give_area(struct area *a)
     give_number(digest(now, a->length), 8);
 }
 
+/* What the call said in the byte lent for the sum. */
+static size_t sum_told(void)
+{
+    if (!guards_are_whole(&sum))
+        fail("written beside the sum", 4);
+    return *lent(&sum);
+}
+
 static void call(int kind)
 {
     size_t used = (size_t)number(8), out[3] = {UNSET, UNSET, UNSET}, i;
     uint8_t fitted = (uint8_t)number(1), station = (uint8_t)number(1), release = (uint8_t)number(1);
+    uint8_t unchecked = (uint8_t)number(1);
     uint16_t first_integer = (uint16_t)number(2), first_flag = (uint16_t)number(2);
     struct area *p = &area[POINTS], *c = &area[COLUMNS], *n = &area[INTEGERS], *f = &area[FLAGS];
     struct area *j = &area[JOURNAL], *x = &area[AXES], *r = &area[REPLY], *h = &area[HANDED];
@@ -195,12 +208,14 @@ static void call(int kind)
 
     if (p->whole == NULL)
         fail("malformed operation", 2);
-    if (kind == 'F')
+    if (kind == 'F') {
+        *lent(&sum) = UNSET_SUM;
         returned = cabinet_answer(lent(h), h->length, lent(p), p->length, lent(c), c->length,
                                   lent(n), n->length, lent(f), f->length, lent(j), j->length, &used,
-                                  lent(x), x->length, fitted, station, release,
-                                  first_integer, first_flag, lent(r), r->length, &out[0]);
-    else if (kind == 'S')
+                                  lent(x), x->length, fitted, station, release, unchecked,
+                                  first_integer, first_flag, lent(r), r->length, &out[0], lent(&sum));
+        out[1] = sum_told();
+    } else if (kind == 'S')
         returned = cabinet_step_back(lent(p), p->length, lent(c), c->length, lent(n), n->length,
                                      lent(f), f->length, lent(j), j->length, &used,
                                      first_integer, first_flag);

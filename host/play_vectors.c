@@ -10,6 +10,8 @@
 #include <stdlib.h>
 #include <string.h>
 
+#define UNSET 0x55 /* stands in the sum before the call: one that isn't set is seen */
+
 enum { POINTS, COLUMNS, INTEGERS, FLAGS, JOURNAL, REPLY, AXES, PARTS };
 
 /* Some are longer than the board takes: it must refuse those lengths too. */
@@ -22,7 +24,7 @@ static const size_t most[PARTS] = {sizeof points, sizeof columns, sizeof integer
                                    sizeof journal, sizeof reply, sizeof axes};
 static size_t lent[PARTS];
 static size_t used;
-static uint8_t fitted, station, release;
+static uint8_t fitted, station, release, unchecked;
 static uint16_t first_integer, first_flag;
 
 static uint8_t operations[262144];
@@ -69,11 +71,13 @@ static void lend(size_t named, size_t length)
     lent[named] = length;
 }
 
-static void take_axes_station_release(void)
+/* Fitted axes, station, release, and whether '@@' is allowed. */
+static void take_four_settings(void)
 {
     fitted = (uint8_t)number(1);
     station = (uint8_t)number(1);
     release = (uint8_t)number(1);
+    unchecked = (uint8_t)number(1);
 }
 
 static void take_first_numbers(void)
@@ -88,7 +92,7 @@ static void board(void)
     for (named = 0; named < PARTS; named++)
         memset(area[named], named == REPLY ? 0xEE : 0, most[named]);
     lend(POINTS, CABINET_POINTS_BYTES((size_t)number(2)));
-    take_axes_station_release();
+    take_four_settings();
     lend(JOURNAL, (size_t)number(4));
     take_first_numbers();
     lend(COLUMNS, CABINET_COLUMNS_BYTES);
@@ -124,12 +128,14 @@ static void answer(void)
 {
     size_t length = (size_t)number(2), reply_length;
     const uint8_t *frame = take(length);
+    uint8_t sum = UNSET;
     unsigned given = cabinet_answer(frame, length, points, lent[POINTS], columns, lent[COLUMNS],
                                     integers, lent[INTEGERS], flags, lent[FLAGS],
                                     journal, lent[JOURNAL], &used, axes, lent[AXES],
-                                    fitted, station, release, first_integer, first_flag,
-                                    reply, lent[REPLY], &reply_length);
-    printf("F %u %lu %lu", given, (unsigned long)reply_length, (unsigned long)used);
+                                    fitted, station, release, unchecked,
+                                    first_integer, first_flag,
+                                    reply, lent[REPLY], &reply_length, &sum);
+    printf("F %u %lu %lu %u", given, (unsigned long)reply_length, (unsigned long)used, sum);
     print_digests(AXES); /* all before the axes, which no call writes */
 }
 
@@ -160,7 +166,7 @@ static int play(void)
     case 'X': spoil(); return 1;
     case 'U': used = (size_t)number(8); return 1;
     case 'L': named = part(); lend(named, (size_t)number(4)); return 1;
-    case 'P': take_axes_station_release(); take_first_numbers(); return 1;
+    case 'P': take_four_settings(); take_first_numbers(); return 1;
     case 'F': answer(); return 1;
     case 'S': step_back(); return 1;
     case 'R': find(); return 1;

@@ -5,8 +5,9 @@
  * (cabinet_answer_frame) and the service panel's step back (cabinet_take_back). The last two are made
  * on a struct cabinet, which has all that they need by name; below them stand the archive's own calls
  * on numbers and byte areas, cabinet_answer and cabinet_step_back. What they promise is document 01's
- * and, of integer variables and flags (request a), of test calls with line ends in them (request c) and of
- * small letters (request l), document 02's; section names below are document 01's.
+ * and, of integer variables and flags (request a), of test calls with line ends in them (request c), of '@@'
+ * forbidden and told (request f) and of small letters (request l), document 02's; section names below are
+ * document 01's.
  *
  * Link with libboard.a. C99 or later, or C++11 or later.
  *
@@ -42,6 +43,11 @@
  * what was sent; the ten bytes of a test call (200H) are any under both releases, and come back as sent. A
  * frame that release 1 accepts has the same answer under release 2. The release may change from call to call.
  *
+ * A fourth says whether a frame may carry '@@' for its SC and is then not checked. Where it is forbidden, such a
+ * frame is refused (12) and changes nothing; every other frame has the same answer either way. It is
+ * cabinet_answer's unchecked, where 0 forbids, and struct cabinet's forbid_unchecked, where 0 allows, as ever.
+ * It too may change from call to call.
+ *
  *
  * OWNERSHIP
  *
@@ -50,7 +56,7 @@
  *   - Every pointer points to as many bytes as its length says (or to one number) and is never null,
  *     not even where the length is 0.
  *   - An area or number that a call may write (points, columns, integers, flags, journal, reply, *used,
- *     *reply_length, *start, *length, *drop) overlaps no other one handed to the same call. The frame may
+ *     *reply_length, *sum, *start, *length, *drop) overlaps no other one handed to the same call. The frame may
  *     be a part of the received bytes; it is no part of a struct cabinet.
  *   - Lengths and bytes may be any: a wrong length, a spoiled byte or a damaged frame is refused as
  *     the table says, and nothing undefined is done.
@@ -80,6 +86,7 @@
  *    13  release neither 1 nor 2                                     none   same
  *     6  not '!' first, CR LF last, 10 to 1,023 bytes; or a 200H     none   same
  *        frame of another length than 20, whatever its station
+ *    12  SC is '@@', and that is forbidden                           none   same
  *     7  SC neither true, in digits of this release, nor '@@'        none   same
  *     8  station differs or isn't digits of this release             none   same
  *     9  step back with used length 0                                none   same
@@ -96,14 +103,25 @@
  * An error reply is '&', station, the three digits of the number, SC, CR, LF.
  *
  *
+ * THE SERVICE LOG
+ *
+ * With every answer comes what the sum test said of the frame (enum cabinet_sum), also where the frame is then
+ * refused. Which frames used '@@' is logged in three lines, as the loop below has them:
+ *
+ *   uint16_t number = cabinet_answer_frame(&board, line + start, length);
+ *   if (board.sum == CABINET_SUM_SWITCHED_OFF)
+ *       service_log(number, line + start, length);
+ *
+ *
  * A HOST'S LOOP
  *
  *   #include "cabinet.h"
  *   #include <string.h>
  *
- *   size_t serial_read(uint8_t *to, size_t room);                    // these three are the host's own
+ *   size_t serial_read(uint8_t *to, size_t room);                    // these four are the host's own
  *   void serial_write(const uint8_t *bytes, size_t length);
  *   void motion_read(uint8_t *axes);
+ *   void service_log(uint16_t number, const uint8_t *frame, size_t length);
  *
  *   static uint8_t points[CABINET_POINTS_BYTES(500)], journal[32768];
  *   static uint8_t line[2 * CABINET_LONGEST_FRAME_BYTES];            // received and not yet dropped
@@ -112,7 +130,7 @@
  *       .points = points, .points_length = sizeof points,
  *       .journal = journal, .journal_length = sizeof journal,
  *       .fitted = 0xFF, .station = 0x99, .release = CABINET_SMALL_LETTERS_TOO,
- *       .first_integer = 200, .first_flag = 600                      // all else is zero: fresh
+ *       .first_integer = 200, .first_flag = 600                      // all else is zero: fresh, '@@' allowed
  *   };
  *
  *   int main(void)
@@ -125,7 +143,9 @@
  *               found = cabinet_receive(line, held, &start, &length, &drop);
  *               if (found == CABINET_FRAME) {
  *                   motion_read(board.axes);
- *                   cabinet_answer_frame(&board, line + start, length);
+ *                   uint16_t number = cabinet_answer_frame(&board, line + start, length);
+ *                   if (board.sum == CABINET_SUM_SWITCHED_OFF)
+ *                       service_log(number, line + start, length);   // accepted or refused
  *                   if (board.reply_length > 0)
  *                       serial_write(board.reply, board.reply_length);
  *               }
@@ -162,8 +182,10 @@ extern "C" {
  * Version 3: cabinet_receive takes 20 bytes as a test call, so line ends may be among its ten bytes; before,
  * it cut the frame at the first. A 200H frame of another length is refused 6, without a reply; before, 103.
  * Version 4: the cabinet release, in cabinet_answer behind the station and in struct cabinet; refusal 13.
+ * Version 5: whether '@@' is allowed, in cabinet_answer behind the release and in struct cabinet; refusal 12; what
+ * the sum test said, cabinet_answer's last parameter and in struct cabinet.
  */
-#define CABINET_VERSION 4
+#define CABINET_VERSION 5
 
 /* Lengths in bytes ("The areas", "Frame"), and how many there are: points at most, integers, flags. */
 #define CABINET_SLOT_BYTES 40
@@ -198,6 +220,14 @@ enum cabinet_release {
     CABINET_SMALL_LETTERS_TOO = 2 /* 'A' to 'F' and 'a' to 'f' */
 };
 
+/* What the sum test said of a frame. */
+enum cabinet_sum {
+    CABINET_SUM_UNTESTED = 0,     /* an earlier test refused the call */
+    CABINET_SUM_TRUE = 1,         /* the SC is that of the bytes before it */
+    CABINET_SUM_SWITCHED_OFF = 2, /* '@@' stands for it */
+    CABINET_SUM_WRONG = 3         /* anything else */
+};
+
 /* What the other calls answer, in the order tested: the table "Refusal numbers" above. */
 enum cabinet_refusal {
     CABINET_ACCEPTED = 0,
@@ -209,6 +239,7 @@ enum cabinet_refusal {
     CABINET_REFUSED_AXES = 5,
     CABINET_REFUSED_RELEASE = 13,
     CABINET_REFUSED_FRAME = 6,
+    CABINET_REFUSED_UNCHECKED = 12,
     CABINET_REFUSED_SC = 7,
     CABINET_REFUSED_STATION = 8,
     CABINET_REFUSED_NO_WRITE_LEFT = 9,
@@ -266,13 +297,16 @@ uint8_t cabinet_receive(const uint8_t *received, size_t received_length,
  *   fitted          the fitted axes, bit 0 for axis 1; not 0
  *   station         the board's station, two digits in a frame (99H for "99")
  *   release         the cabinet release: CABINET_CAPITALS_ONLY (1) or CABINET_SMALL_LETTERS_TOO (2)
+ *   unchecked       0 forbids '@@' for an SC (refusal 12), any other value allows it
  *   first_integer   the number of the first integer variable
  *   first_flag      the number of the first flag
  *   reply, reply_area_length      the reply area; bytes beyond the reply stay
  *   reply_length    out: how many bytes of the reply area are the reply; 0 where there is none
+ *   sum             out: what the sum test said, enum cabinet_sum: also where 12, 7 or a later test refuses
+ *                   the frame; CABINET_SUM_UNTESTED where an earlier one does (1 to 6, 10, 13)
  *
- * Returns CABINET_ACCEPTED, else the refusal number (1 to 8, 10 and 13: no reply; 101 to 108: the ten bytes
- * of an error reply).
+ * Returns CABINET_ACCEPTED, else the refusal number (1 to 8, 10, 12 and 13: no reply; 101 to 108: the ten
+ * bytes of an error reply).
  *
  * Replies to accepted frames, each '#', station, message ID, content, SC, CR, LF, and the content's digits:
  *
@@ -300,9 +334,10 @@ uint16_t cabinet_answer(const uint8_t *frame, size_t frame_length,
                         uint8_t *flags, size_t flags_length,
                         uint8_t *journal, size_t journal_length, size_t *used,
                         const uint8_t *axes, size_t axes_length,
-                        uint8_t fitted, uint8_t station, uint8_t release,
+                        uint8_t fitted, uint8_t station, uint8_t release, uint8_t unchecked,
                         uint16_t first_integer, uint16_t first_flag,
-                        uint8_t *reply, size_t reply_area_length, size_t *reply_length);
+                        uint8_t *reply, size_t reply_area_length, size_t *reply_length,
+                        uint8_t *sum);
 
 /*
  * Steps back: takes away the latest accepted write that the journal still holds. Easier to call:
@@ -349,11 +384,12 @@ struct cabinet {
     size_t journal_length;
 
     /* settings */
-    uint8_t fitted;         /* the fitted axes, bit 0 for axis 1; not 0 */
-    uint8_t station;        /* two digits in a frame (0x99 for "99") */
-    uint8_t release;        /* enum cabinet_release; 0, not set, is CABINET_CAPITALS_ONLY */
-    uint16_t first_integer; /* number of the first integer variable, 0 to 3,996 */
-    uint16_t first_flag;    /* number of the first flag, 0 to 65,236 */
+    uint8_t fitted;           /* the fitted axes, bit 0 for axis 1; not 0 */
+    uint8_t station;          /* two digits in a frame (0x99 for "99") */
+    uint8_t release;          /* enum cabinet_release; 0, not set, is CABINET_CAPITALS_ONLY */
+    uint8_t forbid_unchecked; /* 0 allows '@@' for an SC, as ever; any other value forbids it (refusal 12) */
+    uint16_t first_integer;   /* number of the first integer variable, 0 to 3,996 */
+    uint16_t first_flag;      /* number of the first flag, 0 to 65,236 */
 
     /* the axis records as they are now: the host writes them before each frame */
     uint8_t axes[CABINET_AXES_BYTES];
@@ -367,12 +403,13 @@ struct cabinet {
     /* what the last call answered */
     uint8_t reply[CABINET_REPLY_BYTES];
     size_t reply_length; /* so many bytes of it; 0 where there is no reply */
+    uint8_t sum;         /* enum cabinet_sum; CABINET_SUM_UNTESTED after a step back */
 };
 
 /*
- * Answers one frame, '!' to CR LF, as cabinet_answer does, under release 1 where board->release is 0. The
- * reply is the first board->reply_length bytes of board->reply. Returns CABINET_ACCEPTED or the refusal
- * number.
+ * Answers one frame, '!' to CR LF, as cabinet_answer does, under release 1 where board->release is 0, and with
+ * '@@' allowed where board->forbid_unchecked is 0. The reply is the first board->reply_length bytes of
+ * board->reply, and board->sum is what the sum test said. Returns CABINET_ACCEPTED or the refusal number.
  */
 static inline uint16_t cabinet_answer_frame(struct cabinet *board,
                                             const uint8_t *frame, size_t frame_length)
@@ -383,8 +420,8 @@ static inline uint16_t cabinet_answer_frame(struct cabinet *board,
                           board->journal, board->journal_length, &board->used,
                           board->axes, sizeof board->axes, board->fitted, board->station,
                           board->release == 0 ? (uint8_t)CABINET_CAPITALS_ONLY : board->release,
-                          board->first_integer, board->first_flag,
-                          board->reply, sizeof board->reply, &board->reply_length);
+                          board->forbid_unchecked == 0, board->first_integer, board->first_flag,
+                          board->reply, sizeof board->reply, &board->reply_length, &board->sum);
 }
 
 /*
@@ -395,6 +432,7 @@ static inline uint16_t cabinet_answer_frame(struct cabinet *board,
 static inline uint16_t cabinet_take_back(struct cabinet *board)
 {
     board->reply_length = 0;
+    board->sum = CABINET_SUM_UNTESTED;
     return cabinet_step_back(board->points, board->points_length,
                              board->columns, sizeof board->columns,
                              board->integers, sizeof board->integers, board->flags, sizeof board->flags,

@@ -81,6 +81,8 @@ pub struct Settings {
     pub station: u8,
     /// The cabinet release, which names the rule of digits (document 02, l).
     pub release: u8,
+    /// 0 forbids '@@' for an SC, any other value allows it (document 02, f).
+    pub unchecked: u8,
     pub firsts: Firsts,
 }
 

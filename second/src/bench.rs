@@ -4,13 +4,14 @@
 use crate::areas::{Board, Firsts, Settings, AXES, RECORD};
 use crate::digits;
 use crate::frames::{self, Found, LONGEST_REPLY};
-use crate::link;
+use crate::link::{self, UNTESTED};
 
 /// The bench's own settings.
 pub const SETTINGS: Settings = Settings {
     fitted: 0xFF,
     station: 0x99,
     release: 1,
+    unchecked: 1,
     firsts: Firsts { integer: 200, flag: 600 },
 };
 
@@ -20,18 +21,21 @@ pub struct Bench {
     pub axes: Vec<u8>,
     pub settings: Settings,
     pub reply: Vec<u8>,
+    /// What the sum test said of the last frame handed over.
+    pub sum: u8,
     received: Vec<u8>,
 }
 
 impl Bench {
-    /// A fresh board: station 99H, release 1, all eight axes fitted, zero records, integers from 200
-    /// on and flags from 600 on.
+    /// A fresh board: station 99H, release 1, '@@' allowed, all eight axes fitted, zero records,
+    /// integers from 200 on and flags from 600 on.
     pub fn fresh(points: usize, journal_length: usize) -> Bench {
         Bench {
             board: Board::fresh(points, journal_length),
             axes: vec![0; AXES * RECORD],
             settings: SETTINGS,
             reply: vec![0; LONGEST_REPLY],
+            sum: UNTESTED,
             received: Vec::new(),
         }
     }
@@ -40,6 +44,7 @@ impl Bench {
     pub fn hand(&mut self, frame: &[u8]) -> (u16, Vec<u8>) {
         let Bench { board, axes, settings, reply, .. } = self;
         let outcome = link::answer(frame, board, axes, *settings, reply);
+        self.sum = outcome.sum;
         (outcome.number, self.reply[..outcome.reply_length].to_vec())
     }
 

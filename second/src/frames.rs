@@ -1,5 +1,5 @@
-//! Frames: finding them, their sum, and the tests 6, 7 and 8 (document 01, "Finding a frame" and
-//! "Frame"; document 02, c and l; document 000, sections 3 and 4-3-1).
+//! Frames: finding them, their sum, test 6, the sum test (7 and 12) and test 8 (document 01, "Finding a
+//! frame" and "Frame"; document 02, c, f and l; document 000, sections 3 and 4-3-1).
 
 use crate::digits::{self, Rule};
 use std::ops::Range;
@@ -14,6 +14,8 @@ pub const SHORTEST_FRAME: usize = 10;
 pub const TEST_CALL_FRAME: usize = SHORTEST_FRAME + 10;
 
 const END: &[u8] = b"\r\n";
+/// What stands for an SC that isn't checked.
+const MARKS: &[u8] = b"@@";
 /// Message ID of a test call.
 const TEST_CALL: &[u8] = b"200";
 /// Where the message ID stands in a frame.
@@ -109,11 +111,25 @@ pub fn has_shape(frame: &[u8]) -> bool {
         && (&frame[ID] != TEST_CALL || frame.len() == TEST_CALL_FRAME)
 }
 
-/// Test 7, of a frame that passed 6: SC is true of the bytes as sent, or '@@' and then not checked.
-pub(crate) fn has_good_sc(frame: &[u8], rule: Rule) -> bool {
+/// What the sum test says (document 02, f).
+#[derive(Clone, Copy, Debug, PartialEq, Eq)]
+pub enum Sum {
+    /// The SC is true of the bytes as sent.
+    True,
+    /// '@@' stands for it.
+    SwitchedOff,
+    /// Anything else.
+    Wrong,
+}
+
+/// The sum test, of a frame that passed 6. '@' is no digit, so '@@' is never true as well.
+pub(crate) fn sum_test(frame: &[u8], rule: Rule) -> Sum {
     let (before, end) = frame.split_at(frame.len() - 4);
-    let given = &end[..2];
-    given == b"@@" || digits::capitals(given, rule) == Some(sc(before))
+    match &end[..2] {
+        MARKS => Sum::SwitchedOff,
+        given if digits::capitals(given, rule) == Some(sc(before)) => Sum::True,
+        _ => Sum::Wrong,
+    }
 }
 
 /// Test 8, of a frame that passed 6: two digits with the value of the station.
@@ -254,30 +270,37 @@ mod tests {
     }
 
     #[test]
-    fn test_seven_wants_the_true_capitals_or_the_two_marks() {
+    fn the_sum_test_tells_the_true_capitals_the_two_marks_and_all_else_apart() {
         for rule in [Rule::CapitalsOnly, Rule::SmallToo] {
-            assert!(has_good_sc(b"!9920900100554\r\n", rule));
-            assert!(has_good_sc(b"!99209001005@@\r\n", rule));
-            assert!(!has_good_sc(b"!9920900100555\r\n", rule));
-            assert!(!has_good_sc(b"!992090010055@\r\n", rule));
-            assert!(!has_good_sc(b"!99209001005@4\r\n", rule));
+            let of = |sc: &str| sum_test(["!99209001005", sc, "\r\n"].concat().as_bytes(), rule);
+            assert_eq!(of("54"), Sum::True);
+            assert_eq!(of("@@"), Sum::SwitchedOff);
+            for sc in ["55", "5@", "@4", "@5", "``", "  ", "\r\n"] {
+                assert_eq!(of(sc), Sum::Wrong, "{sc}");
+            }
+        }
+        // Where the sum ends in 00 the marks aren't true either: '@' isn't the digit 0.
+        let before = b"!99200+000000000";
+        assert_eq!(sc(before), b"00");
+        for (sc, said) in [("00", Sum::True), ("@@", Sum::SwitchedOff), ("@0", Sum::Wrong)] {
+            let frame = [&before[..], sc.as_bytes(), END].concat();
+            assert_eq!(sum_test(&frame, Rule::CapitalsOnly), said, "{sc}");
         }
     }
 
     #[test]
-    fn test_seven_takes_small_letters_under_release_2_and_sums_what_was_sent() {
-        let of = |frame: &[u8]| {
-            [Rule::CapitalsOnly, Rule::SmallToo].map(|rule| has_good_sc(frame, rule))
-        };
+    fn the_sum_test_takes_small_letters_under_release_2_and_sums_what_was_sent() {
+        let of =
+            |frame: &[u8]| [Rule::CapitalsOnly, Rule::SmallToo].map(|rule| sum_test(frame, rule));
         // 21+39+39+32+30+38 is 12D; FF in 212FF makes 1B4, and a small letter 20 more.
-        assert_eq!(of(b"!992082D\r\n"), [true, true]);
-        assert_eq!(of(b"!992082d\r\n"), [false, true]);
-        assert_eq!(of(b"!99212FFb4\r\n"), [false, true]);
-        assert_eq!(of(b"!99212fFD4\r\n"), [true, true]);
-        assert_eq!(of(b"!99212ffF4\r\n"), [true, true]);
-        assert_eq!(of(b"!99212fff4\r\n"), [false, true]);
-        assert_eq!(of(b"!99212ffB4\r\n"), [false, false]);
-        assert_eq!(of(b"!99212ff@@\r\n"), [true, true]);
+        assert_eq!(of(b"!992082D\r\n"), [Sum::True, Sum::True]);
+        assert_eq!(of(b"!992082d\r\n"), [Sum::Wrong, Sum::True]);
+        assert_eq!(of(b"!99212FFb4\r\n"), [Sum::Wrong, Sum::True]);
+        assert_eq!(of(b"!99212fFD4\r\n"), [Sum::True, Sum::True]);
+        assert_eq!(of(b"!99212ffF4\r\n"), [Sum::True, Sum::True]);
+        assert_eq!(of(b"!99212fff4\r\n"), [Sum::Wrong, Sum::True]);
+        assert_eq!(of(b"!99212ffB4\r\n"), [Sum::Wrong, Sum::Wrong]);
+        assert_eq!(of(b"!99212ff@@\r\n"), [Sum::SwitchedOff, Sum::SwitchedOff]);
     }
 
     #[test]

@@ -2,7 +2,7 @@
 
 use crate::areas::{self, Area, Axis, Board, Firsts, Kind, Kinds, Run, Settings};
 use crate::digits::Rule;
-use crate::frames::{self, LONGEST_REPLY};
+use crate::frames::{self, Sum, LONGEST_REPLY};
 use crate::journal::{self, Entry};
 use crate::messages::{self, Asked};
 use crate::replies;
@@ -12,6 +12,20 @@ use crate::replies;
 pub struct Outcome {
     pub number: u16,
     pub reply_length: usize,
+    /// What the sum test said (document 02, f): `UNTESTED` or a `sum_number`.
+    pub sum: u8,
+}
+
+/// An earlier test refused the call, so that the sum wasn't tested.
+pub const UNTESTED: u8 = 0;
+
+/// The number by which an answer tells what the sum test said.
+pub fn sum_number(said: Sum) -> u8 {
+    match said {
+        Sum::True => 1,
+        Sum::SwitchedOff => 2,
+        Sum::Wrong => 3,
+    }
 }
 
 /// What the tests of the areas found out on the way.
@@ -28,10 +42,16 @@ pub fn answer(
     settings: Settings,
     reply: &mut [u8],
 ) -> Outcome {
-    let (sound, records, rule) = match silent_tests(frame, board, axes, settings, reply.len()) {
+    let silent = |number: u16, sum: u8| Outcome { number, reply_length: 0, sum };
+    let (sound, records, rule) = match earlier_tests(frame, board, axes, settings, reply.len()) {
         Ok(found) => found,
-        Err(number) => return Outcome { number, reply_length: 0 },
+        Err(number) => return silent(number, UNTESTED),
     };
+    let said = frames::sum_test(frame, rule);
+    let sum = sum_number(said);
+    if let Err(number) = sum_and_station(frame, said, settings, rule) {
+        return silent(number, sum);
+    }
     let Settings { fitted, station, .. } = settings;
     let (number, text) = match messages::ask(frame, &sound.kinds, fitted, rule) {
         Ok((id, asked)) => {
@@ -41,7 +61,7 @@ pub fn answer(
         Err(number) => (number, frames::error_reply(station, number)),
     };
     reply[..text.len()].copy_from_slice(&text);
-    Outcome { number, reply_length: text.len() }
+    Outcome { number, reply_length: text.len(), sum }
 }
 
 /// Takes the latest accepted write back; answers 0 or the refusal (2, 3, 10, 4, then 9).
@@ -58,8 +78,8 @@ pub fn step_back(board: &mut Board, firsts: Firsts) -> u16 {
     }
 }
 
-/// Tests 1 to 8, whose refusals have no reply, with 10 after 3 and 13 after 5.
-fn silent_tests(
+/// The tests before the sum's, whose refusals have no reply: 1 to 6, with 10 after 3 and 13 after 5.
+fn earlier_tests(
     frame: &[u8],
     board: &Board,
     axes: &[u8],
@@ -78,13 +98,17 @@ fn silent_tests(
     if !frames::has_shape(frame) {
         return Err(6);
     }
-    if !frames::has_good_sc(frame, rule) {
-        return Err(7);
-    }
-    if !frames::has_station(frame, settings.station, rule) {
-        return Err(8);
-    }
     Ok((sound, records, rule))
+}
+
+/// 7 for a wrong SC, 12 in its place for '@@' where it is forbidden, then 8; these have no reply either.
+fn sum_and_station(frame: &[u8], said: Sum, settings: Settings, rule: Rule) -> Result<(), u16> {
+    match said {
+        Sum::Wrong => Err(7),
+        Sum::SwitchedOff if settings.unchecked == 0 => Err(12),
+        _ if !frames::has_station(frame, settings.station, rule) => Err(8),
+        _ => Ok(()),
+    }
 }
 
 /// Tests 2, 3, 10 and 4, which both calls make.

@@ -255,6 +255,19 @@ fn check_reply(number: u16, text: &[u8], frame: &[u8]) {
     }
 }
 
+/// What is told of the sum goes with the number and with what stands for the SC.
+fn check_sum(number: u16, sum: u8, frame: &[u8], unchecked: u8) {
+    let marked = frame.ends_with(b"@@\r\n");
+    let expected = match number {
+        1..=6 | 10 | 13 => 0,
+        7 => 3,
+        _ if marked => 2,
+        _ => 1,
+    };
+    assert_eq!(sum, expected, "{number} {frame:?}");
+    assert_eq!(number == 12, sum == 2 && unchecked == 0, "{number} {frame:?}");
+}
+
 #[test]
 fn any_call_ends_and_writes_only_what_it_may() {
     let mut dice = Dice(20_261_115);
@@ -269,15 +282,18 @@ fn any_call_ends_and_writes_only_what_it_may() {
         let mut reply = dice.bytes(area);
         let (board_before, reply_before) = (board.clone(), reply.clone());
         let release = dice.pick(&[1, 1, 1, 1, 2, 2, 2, 2, 0, 3]);
-        let settings = Settings { fitted, station: 0x99, release, firsts: any_firsts(&mut dice) };
-        let Outcome { number, reply_length } =
+        let unchecked = dice.pick(&[0, 1, 0x80, 0xFF]);
+        let firsts = any_firsts(&mut dice);
+        let settings = Settings { fitted, station: 0x99, release, unchecked, firsts };
+        let Outcome { number, reply_length, sum } =
             answer(&frame, &mut board, &axes, settings, &mut reply);
         seen.insert(number);
         check_reply(number, &reply[..reply_length], &frame);
+        check_sum(number, sum, &frame, unchecked);
         assert_eq!(reply[reply_length..], reply_before[reply_length..]);
         assert!(number == 0 || board == board_before);
     }
-    let expected: Vec<u16> = (0..=8).chain([10, 13]).chain(101..=108).collect();
+    let expected: Vec<u16> = (0..=8).chain([10, 12, 13]).chain(101..=108).collect();
     assert_eq!(seen.into_iter().collect::<Vec<u16>>(), expected);
 }
 

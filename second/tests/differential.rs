@@ -8,6 +8,7 @@ use second::journal::least_length;
 use second::{Board, Outcome};
 
 mod wrong_letters;
+mod wrong_sums;
 
 fn plan(calls: usize) -> Plan {
     Plan { seed: 20_261_115, calls, show: 0 }
@@ -268,7 +269,7 @@ impl Wrong {
             {
                 let text = closed([b"#", &frame[1..17]].concat());
                 reply[..21].copy_from_slice(&text);
-                *outcome = Outcome { number: 0, reply_length: 21 };
+                *outcome = Outcome { number: 0, reply_length: 21, sum: 1 };
             }
             _ => {}
         }
@@ -314,7 +315,7 @@ impl Calls for Wrong {
         reply: &mut [u8],
     ) -> Outcome {
         if self.is(Wrong::RefusesAll) {
-            return Outcome { number: 6, reply_length: 0 };
+            return Outcome { number: 6, reply_length: 0, sum: 0 };
         }
         let old = owned(areas);
         let firsts = settings.firsts;
@@ -337,6 +338,7 @@ impl Calls for Wrong {
         let admitted = self.admit(number, areas, firsts, |areas, firsts| Outcome {
             number: SecondProgram.step_back(areas, firsts),
             reply_length: 0,
+            sum: 0,
         });
         admitted.map_or(number, |outcome| outcome.number)
     }
@@ -362,6 +364,13 @@ fn wrong_boards_are_caught() {
 #[test]
 fn boards_with_wrong_letters_are_caught() {
     for wrong in wrong_letters::ALL {
+        is_caught(&wrong, &format!("{wrong:?}"));
+    }
+}
+
+#[test]
+fn boards_with_wrong_sums_are_caught() {
+    for wrong in wrong_sums::ALL {
         is_caught(&wrong, &format!("{wrong:?}"));
     }
 }

@@ -264,6 +264,24 @@ fn number_10_new_areas_and_first_numbers() {
 }
 
 #[test]
+fn number_12_marks_where_they_are_forbidden() {
+    let with = |unchecked: u8, sc: &[u8]| {
+        let mut call = Call::good("208");
+        call.settings.unchecked = unchecked;
+        call.frame = [b"!99208", sc, b"\r\n"].concat();
+        call
+    };
+    assert_eq!(with(0, b"@@").refused(), 12);
+    for sc in [b"2E", b"2d", b"@D", b"2@", b"00", b"D2", b" 2", b"\r\n"] {
+        assert_eq!(with(0, sc).refused(), 7);
+    }
+    assert_eq!(with(0, b"2D").make().number, 0);
+    for unchecked in 1..=255 {
+        assert_eq!(with(unchecked, b"@@").make().number, 0, "{unchecked}");
+    }
+}
+
+#[test]
 fn number_13_releases() {
     for release in (0..=255).filter(|release| ![1, 2].contains(release)) {
         assert_eq!(after(|call| call.settings.release = release), 13, "{release}");
@@ -315,8 +333,8 @@ fn number_4_entries_of_integers_and_flags() {
     }
 }
 
-/// Tests 1 to 8, 10 and 13, in their order.
-const SILENT: [u16; 10] = [1, 2, 3, 10, 4, 5, 13, 6, 7, 8];
+/// Tests 1 to 8, 10, 12 and 13, in their order; where the SC is wrong 12 doesn't hold.
+const SILENT: [u16; 11] = [1, 2, 3, 10, 4, 5, 13, 6, 12, 7, 8];
 
 /// Those of some numbers whose bit is set, in their order.
 fn chosen(numbers: &[u16], set: usize) -> Vec<u16> {
@@ -335,15 +353,18 @@ fn spoil(call: &mut Call, parts: &mut [&str; 3], number: u16) {
         5 => call.settings.fitted = 0,
         13 => call.settings.release = 3,
         6 => parts[0] = "?",
+        12 => call.settings.unchecked = 0,
         7 => parts[2] = "  ",
         _ => parts[1] = "9a",
     }
 }
 
 #[test]
-fn among_1_to_8_10_and_13_the_earliest_is_given() {
+fn among_1_to_8_10_12_and_13_the_earliest_is_given() {
     for set in 1..1 << SILENT.len() {
         let broken = chosen(&SILENT, set);
+        let wrong = broken.contains(&7);
+        let earliest = broken.iter().copied().find(|&number| number != 12 || !wrong);
         // An unknown message besides: silent refusals come before the error replies.
         for (message, release) in [("208", 1), ("299", 1), ("208", 2), ("299", 2)] {
             let mut call = Call::good(message);
@@ -353,7 +374,7 @@ fn among_1_to_8_10_and_13_the_earliest_is_given() {
                 spoil(&mut call, &mut parts, number);
             }
             call.frame = [parts[0], parts[1], message, parts[2], "\r\n"].concat().into_bytes();
-            assert_eq!(call.refused(), broken[0], "{broken:?}");
+            assert_eq!(Some(call.refused()), earliest, "{broken:?}");
         }
     }
 }
@@ -508,6 +529,9 @@ fn an_error_reply_depends_on_frame_settings_and_n_only() {
     other.board.used = 0;
     other.axes[0] = 0x77;
     assert_eq!(first.refused(), 107);
+    assert_eq!(other.refused(), 107);
+    // Whether '@@' is allowed says nothing of a frame with a true SC.
+    other.settings.unchecked = 0;
     assert_eq!(other.refused(), 107);
     // Which numbers are held is a setting's: 300 is the last of integers from 201 on.
     let mut query = Call::good("20E0012C01");

@@ -41,6 +41,7 @@ fn serve(
     let settings = Settings {
         station: 0x99,
         release: 1,
+        unchecked: true,
         fitted: 0xFF,
     };
     let kept = Kept { used };

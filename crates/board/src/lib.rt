@@ -2,17 +2,20 @@
 use axes::read_axes;
 use calls::Kept;
 use calls::Settings;
+use calls::Told;
 use finder::Found;
 use finder::find;
 use finder::frame_in;
+use frames::checks::Sum;
 use kinds::Firsts;
 use link::answer;
 use link::step_back;
+ghost use mathlib.Core.Path.{_≡_};
 ghost use Rattle.finder.specs.Find.{findIn};
 ghost use Rattle.axes.specs.Axes.{axesIn};
 ghost use Rattle.calls.specs.Calls.{areasOf, callOf};
-ghost use Rattle.link.specs.Contract.{Answers, StepsBack};
-ghost use Rattle.board.specs.Calls.{Receives, settingsOf, keptOf, firstsOf, answeredOf, backedOf};
+ghost use Rattle.link.specs.Contract.{StepsBack};
+ghost use Rattle.board.specs.Calls.{Receives, settingsOf, keptOf, firstsOf, sumCode, CabinetAnswers, backedOf};
 
 // 0 a frame, 1 nothing, 2 wait, 3 too long.
 #[no_mangle]
@@ -49,6 +52,20 @@ pub extern "C" fn cabinet_receive(
     }
 }
 
+// 0 untested, 1 true, 2 switched off, 3 wrong.
+fn sum_code(told: Told) -> u8
+    ensures { λ r. ⌜ r ≡ sumCode told ⌝ }
+{
+    match told {
+        Told::Untested => 0,
+        Told::Said(sum) => match sum {
+            Sum::True => 1,
+            Sum::SwitchedOff => 2,
+            Sum::Wrong => 3,
+        },
+    }
+}
+
 // The refusal number, 0 where accepted.
 #[no_mangle]
 pub extern "C" fn cabinet_answer(
@@ -63,22 +80,25 @@ pub extern "C" fn cabinet_answer(
     fitted: u8,
     station: u8,
     release: u8,
+    unchecked: u8,
     first_integer: u16,
     first_flag: u16,
     reply: &mut [u8],
     length: &mut usize,
+    sum: &mut u8,
 ) -> u16
-    ensures { λ r. ⌜ Answers
-        (callOf (now (frame .entry)) (axesIn (now (axes .entry))) (settingsOf fitted station release) (now (reply .entry))
+    ensures { λ r. ⌜ CabinetAnswers
+        (callOf (now (frame .entry)) (axesIn (now (axes .entry))) (settingsOf fitted station release unchecked) (now (reply .entry))
         (areasOf (now (points .entry)) (now (columns .entry)) (now (integers .entry)) (now (flags .entry)) (now (journal .entry))
         (keptOf (now (used .entry))) (firstsOf «first_integer» «first_flag»)))
-        (answeredOf r (now (length .exit)) (now (used .exit)))
+        r (now (length .exit)) (now (used .exit)) (now (sum .exit))
         (areasOf (now (points .exit)) (now (columns .exit)) (now (integers .exit)) (now (flags .exit)) (now (journal .exit))
         (keptOf (now (used .exit))) (firstsOf «first_integer» «first_flag»)) (now (reply .exit)) ⌝ }
 {
     let settings = Settings {
         station,
         release,
+        unchecked: unchecked != 0,
         fitted,
     };
     let kept = Kept { used: *used };
@@ -100,8 +120,10 @@ pub extern "C" fn cabinet_answer(
         reply,
     );
     let after = answered.kept;
+    let told = answered.sum;
     *used = after.used;
     *length = answered.length;
+    *sum = sum_code(told);
     answered.number
 }
 

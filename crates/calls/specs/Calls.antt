@@ -1,4 +1,4 @@
--- Document 01, "The areas", and document 02, requests a and l: all that is handed over with a frame, and all that comes back.
+-- Document 01, "The areas", and document 02, requests a, f and l: all that is handed over with a frame, and all that comes back.
 use Prim.Native.Nat.{ℕ}
 use mathlib.Core.Bool.{cond}
 use mathlib.Core.List.{List, []}
@@ -12,6 +12,7 @@ use Rattle.journal.specs.Journal.{Entry, encodes, entriesIn, added, areaOf, las
 use Rattle.axes.specs.declared.Axes.{Axes}
 use Rattle.calls.specs.declared.Settings.{Settings}
 use Rattle.calls.specs.declared.Kept.{Kept}
+use Rattle.calls.specs.declared.Told.{Told}
 
 -- the areas that are used throughout, with the numbers that are kept beside them and the first numbers that settings give (02, a)
 pub record Areas : Type 0 where
@@ -34,11 +35,12 @@ pub record Call : Type 0 where
   pub sent : Sent
   pub areas : Areas
 
--- what comes back; the reply's text is empty where there is none
+-- what comes back; the reply's text is empty where there is none; "which it was", of the sum test (02, f)
 pub record Outcome : Type 0 where
   pub number : ℕ
   pub text : List ℕ
   pub areas : Areas
+  pub sum : Told
 
 -- areas, what is sent, and a call, as they are handed over
 abbrev pub areasOf : List ℕ → List ℕ → List ℕ → List ℕ → List ℕ → Kept → Firsts → Areas

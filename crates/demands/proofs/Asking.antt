@@ -11,8 +11,10 @@ use lib.Seq.{length-take-le, take-all, take-take, take-at, drop-at, drop-drop}
 use borrow.Author.Tests.{le-ltb, le-leb, eq-eqb, ne-eqb}
 use Rattle.digits.specs.Digits.{capitals, digitsOf, admitted, numberOf}
 use Rattle.digits.proofs.Inverse.{inverse, all-append}
-use Rattle.frames.specs.Frame.{normal, replyOf}
+use Rattle.digits.proofs.Bools.{was-not}
+use Rattle.frames.specs.Frame.{normal, replyOf, sumPasses, sumSaid}
 use Rattle.frames.proofs.Bools.{and-false}
+use Rattle.frames.proofs.Three.{isWrong, which}
 use Rattle.kinds.specs.declared.Held.{Held}
 use Rattle.points.proofs.Parts.{all-take}
 use Rattle.table.specs.declared.Follows.{Follows}
@@ -29,15 +31,15 @@ use Rattle.messages.proofs.Judged.{Right, told, ordered}
 use Rattle.messages.proofs.Capitals as capital
 use Rattle.kinds.specs.Kinds.{kindOf, heldIn, holds}
 use Rattle.calls.specs.Calls.{Areas, Sent, Call, Outcome, callOf, lengthsOf, areaIn}
-use Rattle.refusals.specs.Refusals.{silentOf}
-use Rattle.refusals.proofs.Rows.{AreasPass, silent-is, past-silent}
+use Rattle.refusals.specs.Refusals.{silentOf, toldOf}
+use Rattle.refusals.proofs.Rows.{AreasPass, forbidden, silent-is, past-silent}
 use Rattle.orders.specs.Orders.{saidBy}
 use Rattle.link.specs.Answer.{held, asked, textOf, areasAfter, answerOf}
 use Rattle.link.proofs.Answering.{heard-answer, accepted}
 use Rattle.orders.proofs.Judging.{Judged, judged-so}
 use Rattle.demands.specs.History.{messageBy, ours}
-use Rattle.demands.specs.Reading.{content, startOf, countOf, commandOf, Host, asking, Says}
-use Rattle.demands.proofs.Commands.{testFits, Heard, heard, Names, message-of}
+use Rattle.demands.specs.Reading.{content, startOf, countOf, commandOf, Host, allowed, asking, Says}
+use Rattle.demands.proofs.Commands.{testFits, summedBy, Heard, heard, Names, message-of}
 use Rattle.demands.proofs.Parts.{same-part}
 
 -- the order of a message over a content
@@ -50,7 +52,7 @@ pub record Took (m : Message) (c : Call) : Type 0 where
   pub right : Right (held c) (c .sent .settings .fitted) (c .sent .settings .release) m (content (c .sent))
   pub assured : Judged (held c) (content (c .sent)) m (startOf m (c .sent)) (countOf m (c .sent))
   pub order : asked c ≡ orderOf m (content (c .sent))
-  pub answer : answerOf c ≡ record { number = 0; text = textOf c (orderOf m (content (c .sent))); areas = areasAfter c (orderOf m (content (c .sent))) }
+  pub answer : answerOf c ≡ record { number = 0; text = textOf c (orderOf m (content (c .sent))); areas = areasAfter c (orderOf m (content (c .sent))); sum = toldOf c }
 
 -- what the tests of a frame assure, on a board that holds so much
 pub record Ordered (h : Held) (m : Message) (s : Sent) : Type 0 where
@@ -80,7 +82,7 @@ took m c known number =
       right = o .0 .right;
       assured = o .0 .assured;
       order = o .1;
-      answer = heard-answer c (a .heard) ∙ ap (λ (x : Asked). record { number = numberGiven x; text = textOf c x; areas = areasAfter c x }) (o .1);
+      answer = heard-answer c (a .heard) ∙ ap (λ (x : Asked). record { number = numberGiven x; text = textOf c x; areas = areasAfter c x; sum = toldOf c }) (o .1);
     }
 
 -- areas that no test of them refuses
@@ -92,24 +94,36 @@ module _ (a : Areas) (h : Sent) (frame : List ℕ) where
   abbrev sending : Call
   sending = callOf frame (h .axes) (h .settings) (h .reply) a
 
+  -- a true SC passes, and '@@' where it is allowed
+  sum-passes : (checked : Bool) → allowed h checked ≡ true → sumSaid (h .settings .release) frame ≡ summedBy checked
+      → (forbidden (h .settings) frame ≡ false) × (sumPasses (h .settings .release) frame ≡ true)
+  sum-passes true g e = let w = which (h .settings .release) frame in (rw (w .0, e), was-not (w .1 ∙ ap isWrong e))
+  sum-passes false g e = let w = which (h .settings .release) frame in (rw (w .0, e, g), was-not (w .1 ∙ ap isWrong e))
+
   -- a command of its station passes every test before a reply
-  pub heard-there : (asks : List ℕ) → Host h → Open a → Heard (h .settings .release) (h .settings .station) asks frame → silentOf sending ≡ 0
-  heard-there asks o p d =
+  pub heard-there : (checked : Bool) (asks : List ℕ) → Host h → allowed h checked ≡ true → Open a
+      → Heard (h .settings .release) (h .settings .station) checked asks frame → silentOf sending ≡ 0
+  heard-there checked asks o g p d =
+      let s = sum-passes checked g (d .has-sum) in
       silent-is sending
       ∙ past-silent (length (h .reply)) frame (h .axes) (h .settings) (lengthsOf a) (a .journal) (a .kept)
       (record {
-        reply-long = le-ltb (length (h .reply)) 1024 (o .reply-long);
-        areas = p;
-        axes-fit = o .axes-fit;
-        release-fits = o .release-fits;
-        shape = d .has-shape;
-        sum = d .has-sum;
+        early =
+            record {
+              reply-long = le-ltb (length (h .reply)) 1024 (o .reply-long);
+              areas = p;
+              axes-fit = o .axes-fit;
+              release-fits = o .release-fits;
+              shape = d .has-shape;
+            };
+        allowed = s .0;
+        sum = s .1;
         station = d .has-station;
       })
       0
 
   -- and asks what it says
-  asked-there : (asks : List ℕ) (q : Message) → Heard (h .settings .release) (h .settings .station) asks frame → Names (take 3 asks) q
+  asked-there : {checked : Bool} (asks : List ℕ) (q : Message) → Heard (h .settings .release) (h .settings .station) checked asks frame → Names (take 3 asks) q
       → Right (heldIn (lengthsOf a)) (h .settings .fitted) (h .settings .release) q (drop 3 asks) → asked sending ≡ orderOf q (drop 3 asks)
   unfolding askedOf
   asked-there asks q d e r =
@@ -117,20 +131,20 @@ module _ (a : Areas) (h : Sent) (frame : List ℕ) where
       ap₂ (λ (n : Named) (s : List ℕ). judged (heldIn (lengthsOf a)) (h .settings .fitted) l n s) (message-of l frame (take 3 asks) (d .message) ∙ e l) (d .content)
       ∙ ordered (heldIn (lengthsOf a)) (h .settings .fitted) l q (drop 3 asks) r
 
--- asked so by a host that is heard, with a true SC or '@@', the board hears it, takes it as this order and accepts it
+-- asked so by a host that is heard, with a true SC or an allowed '@@', the board hears it, takes it as this order and accepts it
 pub record TakenAs (q : Message) (a : Areas) (h : Sent) (b : Bool) (asks : List ℕ) : Type 0 where
-  pub is-heard : Heard (h .settings .release) (h .settings .station) asks (commandOf b (h .settings .station) asks)
+  pub is-heard : Heard (h .settings .release) (h .settings .station) b asks (commandOf b (h .settings .station) asks)
   pub again : silentOf (asking a h b asks) ≡ 0
   pub order : asked (asking a h b asks) ≡ orderOf q (drop 3 asks)
   pub accepts : answerOf (asking a h b asks) .number ≡ 0
 
 pub taken-as : (a : Areas) (asks : List ℕ) (q : Message) → Open a → 3 ≤ length asks → length asks ≤ 1016 → testFits asks ≡ true
     → Names (take 3 asks) q → ((fitted release : ℕ) → Right (heldIn (lengthsOf a)) fitted release q (drop 3 asks)) → (h : Sent) → Host h → (b : Bool)
-    → TakenAs q a h b asks
-taken-as a asks q p least most fits e r h o b =
+    → allowed h b ≡ true → TakenAs q a h b asks
+taken-as a asks q p least most fits e r h o b g =
     let frame = commandOf b (h .settings .station) asks in
     let d = heard (h .settings .release) b (h .settings .station) asks (o .station-byte) least most fits in
-    let z = heard-there a h frame asks o p d in
+    let z = heard-there a h frame b asks o g p d in
     let w = asked-there a h frame asks q d e (r (h .settings .fitted) (h .settings .release)) in
     record { is-heard = d; again = z; order = w; accepts = ap (λ (x : Outcome). x .number) (heard-answer (asking a h b asks) z) ∙ ap numberGiven w }
 
@@ -142,9 +156,9 @@ pub says : (a : Areas) (asks said : List ℕ) (q : Message) → Open a → 3 ≤
 says a asks said q p least most fits e r t =
     let k = taken-as a asks q p least most fits e r in
     record {
-      number = λ h o b. k h o b .accepts;
-      text = λ h o b.
-          ap (λ (x : Outcome). x .text) (heard-answer (asking a h b asks) (k h o b .again)) ∙ ap (textOf (asking a h b asks)) (k h o b .order)
+      number = λ h o b g. k h o b g .accepts;
+      text = λ h o b g.
+          ap (λ (x : Outcome). x .text) (heard-answer (asking a h b asks) (k h o b g .again)) ∙ ap (textOf (asking a h b asks)) (k h o b g .order)
           ∙ ap (replyOf normal (h .settings .station)) (t h (commandOf b (h .settings .station) asks));
     }
 

@@ -243,7 +243,7 @@ unfolding capital
 of-text c other z (Refused k) q = of-error (c .sent .settings .station) k
 of-text c other z (Order m start count) q =
     of-reply normal (c .sent .settings .station) (saidBy (m .does) (held c) (c .sent) m start count (areaIn (m .tag) (c .areas))) refl
-    (of-said c m start count (m .does) (not-said-back c other (omega (arith, shaped-long (c .sent .frame) (call-passed c z .shape))) m start count q))
+    (of-said c m start count (m .does) (not-said-back c other (omega (arith, shaped-long (c .sent .frame) (call-passed c z .early .shape))) m start count q))
 
 pub replies-in-capitals : RepliesInCapitals ours
 replies-in-capitals c other =

@@ -11,9 +11,11 @@ use borrow.Author.Tests.{eqb-true, eqb-false, eq-eqb, ne-eqb, le-leb, lt-leb}
 use Rattle.digits.specs.Digits.{admits, worthOf, byteOf, admitted, numberOf}
 use Rattle.digits.specs.Text.{text}
 use Rattle.digits.proofs.Inverse.{inverse, and-right}
-use Rattle.frames.specs.Frame.{command, CR, LF, stationIn, messageIn, contentIn, beforeSC, scIn, scOf, testCallFits, shaped, sumTrue, sumOff, sumPasses, stationPasses}
-use Rattle.frames.proofs.Bools.{or-true}
+use Rattle.frames.specs.declared.checks.Sum.{Sum}
+use Rattle.frames.specs.declared.checks.Sum.the-variants.{True, SwitchedOff}
+use Rattle.frames.specs.Frame.{command, CR, LF, stationIn, messageIn, contentIn, beforeSC, scIn, scOf, testCallFits, shaped, sumSaid, stationPasses}
 use Rattle.frames.proofs.Promised.{closed-true, own-digits}
+use Rattle.frames.proofs.Three.{said-true, said-off, one-of-three}
 use Rattle.frames.proofs.TestID.{is200, by-message}
 use Rattle.kinds.specs.Kinds.{pointsTag, columnsTag, integersTag, flagsTag}
 use Rattle.table.specs.declared.Follows.the-variants.{Nothing, TenBytes, Points, RunBytes, ChangeType}
@@ -110,19 +112,23 @@ module _ (x y : ℕ) (said sc : List ℕ) (two : length sc ≡ 2) where
   pub is-begun : beforeSC (framed x y said sc) ≡ begun x y said
   is-begun = take-at (begun x y said) (sc ++ (CR ∷ LF ∷ [])) (length (framed x y said sc) - 4) (omega (arith, framed-long))
 
--- a frame that passes the tests 6 to 8 of a station under a release, with what it says
-pub record Heard (release station : ℕ) (said frame : List ℕ) : Type 0 where
+-- what the sum test says of a command with a true SC, and with '@@'
+abbrev pub summedBy : Bool → Sum
+summedBy checked = cond checked True SwitchedOff
+
+-- a frame that passes the tests 6 to 8 of a station under a release, 12 where '@@' is allowed, with what it says
+pub record Heard (release station : ℕ) (checked : Bool) (said frame : List ℕ) : Type 0 where
   pub has-shape : shaped frame ≡ true
-  pub has-sum : sumPasses release frame ≡ true
+  pub has-sum : sumSaid release frame ≡ summedBy checked
   pub has-station : stationPasses release station frame ≡ true
   pub message : messageIn frame ≡ take 3 said
   pub content : contentIn frame ≡ drop 3 said
 
 -- whatever its station and its SC, if they pass
-pub heard-with : (release station x y : ℕ) (said sc : List ℕ) → length sc ≡ 2 → sumPasses release (framed x y said sc) ≡ true
-    → stationPasses release station (framed x y said sc) ≡ true → 3 ≤ length said → length said ≤ 1016 → testFits said ≡ true
-    → Heard release station said (framed x y said sc)
-heard-with release station x y said sc two sum ours least most fits =
+pub heard-with : (release station : ℕ) (checked : Bool) (x y : ℕ) (said sc : List ℕ) → length sc ≡ 2
+    → sumSaid release (framed x y said sc) ≡ summedBy checked → stationPasses release station (framed x y said sc) ≡ true → 3 ≤ length said
+    → length said ≤ 1016 → testFits said ≡ true → Heard release station checked said (framed x y said sc)
+heard-with release station checked x y said sc two sum ours least most fits =
     record {
       has-shape = is-shaped x y said sc two least most fits;
       has-sum = sum;
@@ -144,25 +150,29 @@ unfolding stationPasses
 ours release station said sc h = own-digits release station h
 
 -- '@@' in the SC's place is seen as such
-pub off : (release x y : ℕ) (said : List ℕ) → sumPasses release (framed x y said (text "@@")) ≡ true
-unfolding sumPasses sumOff
-off release x y said = rw (is-sc x y said (text "@@") refl) (or-true (sumTrue release (framed x y said (text "@@"))))
+pub off : (release x y : ℕ) (said : List ℕ) → sumSaid release (framed x y said (text "@@")) ≡ SwitchedOff
+off release x y said =
+    let f = framed x y said (text "@@") in said-off release f (one-of-three release f .off .1 (is-sc x y said (text "@@") refl))
 
--- test 7: the SC is true, or it is '@@'
-summed : (release : ℕ) (checked : Bool) (station : ℕ) (said : List ℕ) → sumPasses release (commandOf checked station said) ≡ true
-unfolding sumPasses
-summed release true station said = rw (closed-true (before station said) release)
+-- the SC is true, or it is '@@'
+pub summed : (release : ℕ) (checked : Bool) (station : ℕ) (said : List ℕ) → sumSaid release (commandOf checked station said) ≡ summedBy checked
+summed release true station said = said-true release (commandOf true station said) (closed-true (before station said) release)
 summed release false station said = off release (high station) (low station) said
+
+-- both have two bytes
+pub two-bytes : (checked : Bool) (s : List ℕ) → length (cond checked (scOf s) (text "@@")) ≡ 2
+two-bytes true s = refl
+two-bytes false s = refl
 
 -- a command is heard, with a true SC and with '@@'
 pub heard : (release : ℕ) (checked : Bool) (station : ℕ) (said : List ℕ) → station < 256 → 3 ≤ length said → length said ≤ 1016 → testFits said ≡ true
-    → Heard release station said (commandOf checked station said)
+    → Heard release station checked said (commandOf checked station said)
 heard release true station said byte =
     let sc = scOf (before station said) in
-    heard-with release station (high station) (low station) said sc refl (summed release true station said) (ours release station said sc byte)
+    heard-with release station true (high station) (low station) said sc refl (summed release true station said) (ours release station said sc byte)
 heard release false station said byte =
     let sc = text "@@" in
-    heard-with release station (high station) (low station) said sc refl (summed release false station said) (ours release station said sc byte)
+    heard-with release station false (high station) (low station) said sc refl (summed release false station said) (ours release station said sc byte)
 
 -- a station that a frame's two digits write is a byte
 pub station-byte : (release station : ℕ) (frame : List ℕ) → 10 ≤ length frame → stationPasses release station frame ≡ true → station < 256

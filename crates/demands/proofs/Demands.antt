@@ -7,6 +7,7 @@ use Rattle.demands.proofs.Histories.{every-history}
 use Rattle.demands.proofs.Survived.{every-digit-survives, heard-again}
 use Rattle.demands.proofs.TestCalls.{test-calls}
 use Rattle.demands.proofs.Releases.{releases, same-answer}
+use Rattle.demands.proofs.SwitchedOff.{switched-off, contract-as-before}
 
 pub demands : Demands
 demands =
@@ -31,6 +32,8 @@ demands =
             test-calls = test-calls;
             releases = releases;
             same-answer = same-answer;
+            switched-off = switched-off;
+            contract-as-before = contract-as-before;
           };
       demand3 = every-history;
     }

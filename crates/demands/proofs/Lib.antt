@@ -22,4 +22,5 @@ pub mod Survived
 pub mod TestCalls
 pub mod Capitals
 pub mod Releases
+pub mod SwitchedOff
 pub mod Demands

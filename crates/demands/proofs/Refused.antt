@@ -22,15 +22,15 @@ use Rattle.messages.specs.Rows.{Row, firstOf}
 use Rattle.table.specs.Table.{messageOf}
 use Rattle.messages.specs.Asked.{askedRows, numberGiven}
 use Rattle.calls.specs.Calls.{Areas, Call, Outcome, lengthsOf}
-use Rattle.refusals.specs.Refusals.{areaRows, frameRows, silentRows, silent, silentOf, backRows, backRefusalOf}
+use Rattle.refusals.specs.Refusals.{areaRows, earlyRows, frameRows, silentRows, silent, silentOf, toldOf, backRows, backRefusalOf}
 use Rattle.link.specs.Answer.{held, asked, areasAfter, textOf, unanswered, answerOf, backOf}
 use Rattle.link.proofs.Answering.{frame-number, asked-number, heard-number}
 use Rattle.demands.specs.Refused.{OneNumber, frameNumbers, backNumbers, among, NoOtherNumber, ChangesNothing, OneReply, ErrorsAgree, asksWrite, QueryChangesNothing}
 
 -- an answer, by whether its frame was heard
 pub answer-either : (c : Call) (P : Outcome → Type 0)
-    → (silentOf c ≡ 0 → P (record { number = numberGiven (asked c); text = textOf c (asked c); areas = areasAfter c (asked c) }))
-    → ((silentOf c ≡ 0 → ⊥) → P (unanswered (silentOf c) (c .areas)))
+    → (silentOf c ≡ 0 → P (record { number = numberGiven (asked c); text = textOf c (asked c); areas = areasAfter c (asked c); sum = toldOf c }))
+    → ((silentOf c ≡ 0 → ⊥) → P (unanswered (toldOf c) (silentOf c) (c .areas)))
     → P (answerOf c)
 unfolding answerOf
 answer-either c P f g = either P (eqb (silentOf c) 0) (λ e. f (eqb-true _ _ e)) (λ e. g (eqb-false _ _ e))
@@ -58,20 +58,20 @@ changes-nothing =
     }
 
 -- what holds of 0, and of each row's number, holds of the number that is given
-abbrev EachNumber : (ℕ → Type 0) → List Row → Type 0
+abbrev pub EachNumber : (ℕ → Type 0) → List Row → Type 0
 EachNumber P [] = Unit
 EachNumber P (r ∷ rs) = P (r .number) × EachNumber P rs
 
-number-given : (P : ℕ → Type 0) (rs : List Row) → P 0 → EachNumber P rs → P (firstOf rs)
+pub number-given : (P : ℕ → Type 0) (rs : List Row) → P 0 → EachNumber P rs → P (firstOf rs)
 number-given P [] z h = z
 number-given P (r ∷ rs) z h = either P (r .holds) (λ _. h .0) (λ _. number-given P rs z (h .1))
 
 -- the numbers of a frame: to 13 without a reply, and from 101 on
 pub silent-low : (c : Call) → silentOf c ≤ 13
-unfolding silentOf silentRows areaRows frameRows
+unfolding silentOf silentRows earlyRows areaRows frameRows
 silent-low c =
     number-given (λ (k : ℕ). k ≤ 13) (silent c) (omega arith)
-    (omega arith, (omega arith, (omega arith, (omega arith, (omega arith, (omega arith, (omega arith, (omega arith, (omega arith, (omega arith, tt))))))))))
+    (omega arith, (omega arith, (omega arith, (omega arith, (omega arith, (omega arith, (omega arith, (omega arith, (omega arith, (omega arith, (omega arith, tt)))))))))))
 
 high : (held : Held) (fitted release : ℕ) (n : Named) (content : List ℕ) → (firstOf (askedRows held fitted release n content) ≡ 0 → ⊥)
     → 101 ≤ firstOf (askedRows held fitted release n content)
@@ -82,7 +82,7 @@ high held fitted release (Known m) content k =
     (λ _. omega arith, (λ _. omega arith, (λ _. omega arith, (λ _. omega arith, (λ _. omega arith, (λ _. omega arith, (λ _. omega arith, tt)))))))
     k
 
-asked-high : (c : Call) → (numberGiven (asked c) ≡ 0 → ⊥) → 101 ≤ numberGiven (asked c)
+pub asked-high : (c : Call) → (numberGiven (asked c) ≡ 0 → ⊥) → 101 ≤ numberGiven (asked c)
 asked-high c n =
     rw (asked-number c)
     (high (held c) (c .sent .settings .fitted) (c .sent .settings .release) (messageOf (c .sent .settings .release) (c .sent .frame)) (contentIn (c .sent .frame)) (λ e. n (asked-number c ∙ e)))
@@ -92,8 +92,8 @@ abbrev Listed : List ℕ → ℕ → Type 0
 Listed ns n = among n ns ≡ true
 
 silent-listed : (c : Call) → Listed frameNumbers (silentOf c)
-unfolding silentOf silentRows areaRows frameRows
-silent-listed c = number-given (Listed frameNumbers) (silent c) refl (refl, (refl, (refl, (refl, (refl, (refl, (refl, (refl, (refl, (refl, tt))))))))))
+unfolding silentOf silentRows earlyRows areaRows frameRows
+silent-listed c = number-given (Listed frameNumbers) (silent c) refl (refl, (refl, (refl, (refl, (refl, (refl, (refl, (refl, (refl, (refl, (refl, tt)))))))))))
 
 asked-listed : (held : Held) (fitted release : ℕ) (n : Named) (content : List ℕ) → Listed frameNumbers (firstOf (askedRows held fitted release n content))
 unfolding askedRows

@@ -14,10 +14,13 @@ use Rattle.digits.specs.Digits.{capital, capitals, digitsOf, admitted, numberOf
 use Rattle.digits.specs.Laid.{laid}
 use Rattle.digits.specs.Text.{text}
 use Rattle.digits.proofs.Inverse.{inverse, rules, and-left, and-right}
+use Rattle.digits.proofs.Bools.{was-not}
 use Rattle.digits.proofs.Capitals.{length-capitals, take-capitals, drop-capitals}
-use Rattle.frames.specs.Frame.{command, normal, replyOf, stationIn, messageIn, contentIn, beforeSC, scIn, scOf, lowByte, shaped, saysNumber, sumTrue, sumOff, sumPasses, stationPasses}
-use Rattle.frames.proofs.Bools.{or-true, and-false}
+use Rattle.frames.specs.declared.checks.Sum.the-variants.{SwitchedOff}
+use Rattle.frames.specs.Frame.{command, normal, replyOf, stationIn, messageIn, contentIn, beforeSC, scIn, scOf, lowByte, shaped, saysNumber, sumTrue, sumOff, sumPasses, sumSaid, stationPasses}
+use Rattle.frames.proofs.Bools.{and-false}
 use Rattle.frames.proofs.Promised.{true-sc}
+use Rattle.frames.proofs.Three.{isOff, isWrong, said-true, said-off, which, one-of-three}
 use Rattle.frames.proofs.TestID.{is200, by-message, test-id}
 use Rattle.kinds.specs.declared.Held.{Held}
 use Rattle.kinds.specs.Kinds.{kindOf, heldIn}
@@ -34,21 +37,23 @@ use Rattle.messages.specs.declared.Asked.the-variants.{Refused, Order}
 use Rattle.messages.specs.Asked.{notDigits, askedOf, judged, numberGiven}
 use Rattle.messages.proofs.Judged.{Right, told, ordered, as-admitted}
 use Rattle.messages.proofs.Capitals.{same-rest, same-judged}
-use Rattle.calls.specs.Calls.{Areas, Sent, Call, Outcome, lengthsOf, areaIn, written}
-use Rattle.refusals.specs.Refusals.{axesFit, releaseFits, silentOf}
-use Rattle.refusals.proofs.Rows.{three, areaNumber, silent-is, past-silent, call-passed}
+use Rattle.calls.specs.declared.Told.{Told}
+use Rattle.calls.specs.declared.Told.the-variants.{Said}
+use Rattle.calls.specs.Calls.{Areas, Sent, Call, Outcome, callOf, lengthsOf, areaIn, written}
+use Rattle.refusals.specs.Refusals.{axesFit, releaseFits, silentOf, toldOf}
+use Rattle.refusals.proofs.Rows.{areaNumber, frameNumber, earlyNumber, early-rows, silent-is, past-silent, call-passed, heard-told, same-told-after}
 use Rattle.refusals.proofs.Tested.{shaped-long}
 use Rattle.queries.specs.Replies.{sameText, axesText}
 use Rattle.orders.specs.Orders.{rest, writes, newBytes, saidBy}
-use Rattle.link.specs.Answer.{held, asked, textOf, areasAfter, answerOf}
+use Rattle.link.specs.Answer.{held, asked, textOf, areasAfter, unanswered, answerOf}
 use Rattle.link.proofs.Answering.{silent-answer, heard-answer, accepted}
 use Rattle.demands.specs.History.{ours}
-use Rattle.demands.specs.Reading.{frameWith, commandOf, asking}
+use Rattle.demands.specs.Reading.{before, frameWith, commandOf, asking}
 use Rattle.demands.specs.TestCalls.{handed}
 use Rattle.demands.specs.Releases.{under, CapitalsOnly, EitherSize, Either, SameUnderTwo, Releases, SameAnswer}
 use Rattle.demands.proofs.Sole.{one-answer}
 use Rattle.demands.proofs.Capitals.{id-200, known-id, no-letters, not-said-back, replies-in-capitals}
-use Rattle.demands.proofs.Commands.{testFits, begun, framed, framed-long, is-message, shape-is, is-content, too-short, is-sc, is-begun, high, low, off, messageNamed, message-of}
+use Rattle.demands.proofs.Commands.{testFits, begun, framed, framed-long, is-message, shape-is, is-content, too-short, is-sc, is-begun, high, low, summedBy, off, summed, two-bytes, messageNamed, message-of}
 
 -- what stands in a field that says a number is admitted, and what passes under release 1 passes under release 2
 module _ (field : List ℕ) (n : ℕ) where
@@ -68,26 +73,23 @@ module _ (frame : List ℕ) where
       go true f e = inl f
       go false f e = inr e
 
+  -- and of it the sum test says the same under release 2
+  true-more : sumTrue 1 frame ≡ true → sumTrue 2 frame ≡ true
+  unfolding sumTrue
+  true-more t = says-more (scIn frame) (lowByte (beforeSC frame)) t
+
+  said-more : sumPasses 1 frame ≡ true → sumSaid 2 frame ≡ sumSaid 1 frame
+  said-more e = ⊎-elim (λ t. said-true 2 frame (true-more t) ∙ sym (said-true 1 frame t)) (λ o. said-off 2 frame o ∙ sym (said-off 1 frame o)) (passed-by 1 e)
+
   sum-more : sumPasses 1 frame ≡ true → sumPasses 2 frame ≡ true
-  unfolding sumPasses sumTrue
-  sum-more e =
-      ⊎-elim (λ t. rw (says-more (scIn frame) (lowByte (beforeSC frame)) t)) (λ o. rw o (or-true (sumTrue 2 frame))) (passed-by 1 e)
+  sum-more e = was-not (which 2 frame .1 ∙ ap isWrong (said-more e) ∙ sym (which 1 frame .1) ∙ ap not e)
 
-  two-long : 10 ≤ length frame → length (scIn frame) ≡ 2
-  two-long l = length-take-le 2 (drop (length frame - 4) frame) (simp length-drop (omega arith))
-
-  sc-plain : 10 ≤ length frame → sumPasses 1 frame ≡ true → capitals (scIn frame) ≡ scIn frame
-  unfolding sumTrue sumOff capital
-  sc-plain l e =
+  sc-plain : sumPasses 1 frame ≡ true → capitals (scIn frame) ≡ scIn frame
+  unfolding sumTrue capital
+  sc-plain e =
       ⊎-elim (λ t. rules (scIn frame) .capitals-only (says-admitted (scIn frame) (lowByte (beforeSC frame)) 1 t))
-      (λ o. rw (is-off (scIn frame) (two-long l) o))
+      (λ o. rw (one-of-three 1 frame .off .0 o))
       (passed-by 1 e)
-    where
-      is-off : (sc : List ℕ) → length sc ≡ 2 → eqb (getD sc 0 0) 0x40 && eqb (getD sc 1 0) 0x40 ≡ true → sc ≡ text "@@"
-      is-off [] l o = absurd (omega arith)
-      is-off (x ∷ []) l o = absurd (omega arith)
-      is-off (x ∷ y ∷ []) l o = rw (eqb-true x 0x40 (and-left (eqb x 0x40) (eqb y 0x40) o), eqb-true y 0x40 (and-right (eqb x 0x40) (eqb y 0x40) o))
-      is-off (x ∷ y ∷ z ∷ s) l o = absurd (omega arith)
 
 -- "release 1, capitals only"
 capitals-only : CapitalsOnly ours
@@ -96,13 +98,13 @@ capitals-only c n =
     let f = c .sent .frame in
     let a = accepted (under 1 c) n in
     let p = call-passed (under 1 c) (a .heard) in
-    let l = shaped-long f (p .shape) in
+    let l = shaped-long f (p .early .shape) in
     let t = told (held c) (c .sent .settings .fitted) 1 (messageOf 1 f) (contentIn f) (a .message) (a .start) (a .count) (a .order) in
     record {
       id = rules (messageIn f) .capitals-only (known-id 1 f (t .message) .0);
       station = rules (stationIn f) .capitals-only (says-admitted (stationIn f) (c .sent .settings .station) 1 (p .station));
       content = λ other. content-plain (a .message) (t .message) (t .rows .digits) l other (anyBytes (a .message .follows)) refl;
-      sc = sc-plain f l (p .sum);
+      sc = sc-plain f (p .sum);
     }
   where
     content-plain : (m : Message) → messageOf 1 (c .sent .frame) ≡ Known m → notDigits 1 m (contentIn (c .sent .frame)) ≡ false → 10 ≤ length (c .sent .frame)
@@ -137,6 +139,34 @@ right-more h fitted m s r =
       type = r .type;
     }
 
+-- what an order says and leaves doesn't ask for the release, nor whether '@@' is allowed
+module _ (c : Call) (release release′ : ℕ) (unchecked unchecked′ : Bool) where
+  abbrev settled : ℕ → Bool → Call
+  settled r u =
+      let s = c .sent .settings in
+      callOf (c .sent .frame) (c .sent .axes) (record { station = s .station; release = r; unchecked = u; fitted = s .fitted }) (c .sent .reply) (c .areas)
+
+  same-said : (does : Action) (m : Message) (start count : ℕ) (area : List ℕ)
+      → saidBy does (held c) (settled release unchecked .sent) m start count area ≡ saidBy does (held c) (settled release′ unchecked′ .sent) m start count area
+  same-said SayBack m start count area = refl
+  same-said CountPoints m start count area = refl
+  same-said ListPoints m start count area = refl
+  same-said ReadRun m start count area = refl
+  same-said AxisStatus m start count area = refl
+  same-said WritePoints m start count area = refl
+  same-said ClearRun m start count area = refl
+  same-said ChangeRun m start count area = refl
+  same-said ShowFlags m start count area = refl
+  same-said SetFlag m start count area = refl
+
+  pub same-text : (x : Asked) → textOf (settled release unchecked) x ≡ textOf (settled release′ unchecked′) x
+  same-text (Refused k) = refl
+  same-text (Order m start count) = ap (replyOf normal (c .sent .settings .station)) (same-said (m .does) m start count (areaIn (m .tag) (c .areas)))
+
+  pub same-areas : (x : Asked) → areasAfter (settled release unchecked) x ≡ areasAfter (settled release′ unchecked′) x
+  same-areas (Refused k) = refl
+  same-areas (Order m start count) = refl
+
 -- "Any frame release 1 accepts, release 2 answers with the same bytes"
 module _ (c : Call) (n : answerOf (under 1 c) .number ≡ 0) where
   abbrev frame : List ℕ
@@ -155,11 +185,15 @@ module _ (c : Call) (n : answerOf (under 1 c) .number ≡ 0) where
       silent-is two
       ∙ past-silent (length (c .sent .reply)) frame (c .sent .axes) (two .sent .settings) (lengthsOf (c .areas)) (c .areas .journal) (c .areas .kept)
       (record {
-        reply-long = p .reply-long;
-        areas = p .areas;
-        axes-fit = p .axes-fit;
-        release-fits = refl;
-        shape = p .shape;
+        early =
+            record {
+              reply-long = p .early .reply-long;
+              areas = p .early .areas;
+              axes-fit = p .early .axes-fit;
+              release-fits = refl;
+              shape = p .early .shape;
+            };
+        allowed = p .allowed;
         sum = sum-more frame (p .sum);
         station = says-more (stationIn frame) (c .sent .settings .station) (p .station);
       })
@@ -178,36 +212,19 @@ module _ (c : Call) (n : answerOf (under 1 c) .number ≡ 0) where
       ∙ sym (ordered h fitted 1 (a .message) s (t .rows))
       ∙ ap (λ (x : Named). judged h fitted 1 x s) (sym (t .message))
 
-  -- what is said doesn't ask for the release
-  same-said : (does : Action) (m : Message) (start count : ℕ) (area : List ℕ)
-      → saidBy does (held c) (two .sent) m start count area ≡ saidBy does (held c) (one .sent) m start count area
-  same-said SayBack m start count area = refl
-  same-said CountPoints m start count area = refl
-  same-said ListPoints m start count area = refl
-  same-said ReadRun m start count area = refl
-  same-said AxisStatus m start count area = refl
-  same-said WritePoints m start count area = refl
-  same-said ClearRun m start count area = refl
-  same-said ChangeRun m start count area = refl
-  same-said ShowFlags m start count area = refl
-  same-said SetFlag m start count area = refl
-
-  same-text : (x : Asked) → textOf two x ≡ textOf one x
-  same-text (Refused k) = refl
-  same-text (Order m start count) = ap (replyOf normal (c .sent .settings .station)) (same-said (m .does) m start count (areaIn (m .tag) (c .areas)))
-
-  same-areas : (x : Asked) → areasAfter two x ≡ areasAfter one x
-  same-areas (Refused k) = refl
-  same-areas (Order m start count) = refl
+  same-told : toldOf two ≡ toldOf one
+  same-told =
+      let z = accepted one n .heard in
+      heard-told two heard-too ∙ ap Said (said-more frame (call-passed one z .sum)) ∙ sym (heard-told one z)
 
   same-answer-there : answerOf two ≡ answerOf one
   same-answer-there =
       let x = asked one in
-      let t = same-text x in
-      let r = same-areas x in
+      let t = same-text c 2 1 (c .sent .settings .unchecked) (c .sent .settings .unchecked) x in
+      let r = same-areas c 2 1 (c .sent .settings .unchecked) (c .sent .settings .unchecked) x in
       heard-answer two heard-too
-      ∙ ap (λ (y : Asked). record { number = numberGiven y; text = textOf two y; areas = areasAfter two y }) same-order
-      ∙ (λ i. record { number = numberGiven x; text = t i; areas = r i })
+      ∙ ap (λ (y : Asked). record { number = numberGiven y; text = textOf two y; areas = areasAfter two y; sum = toldOf two }) same-order
+      ∙ (λ i. record { number = numberGiven x; text = t i; areas = r i; sum = same-told i })
       ∙ sym (heard-answer one (accepted one n .heard))
 
 same-under-two : SameUnderTwo ours
@@ -221,6 +238,7 @@ same-answer c r r′ a a′ reply reply′ x y n =
       number-is = y .number-is ∙ ap (λ (o : Outcome). o .number) e;
       length-is = y .length-is ∙ ap (λ (o : Outcome). length (o .text)) e;
       kept-is = y .kept-is ∙ ap (λ (o : Outcome). o .areas .kept) e;
+      sum-is = y .sum-is ∙ ap (λ (o : Outcome). o .sum) e;
       areas-are = y .areas-are ∙ ap (λ (o : Outcome). o .areas) e;
       reply-is = y .reply-is ∙ ap (λ (o : Outcome). laid (c .sent .reply) 0 (o .text)) e;
     })
@@ -234,38 +252,61 @@ module _ (a : Areas) (h : Sent) (f g : List ℕ) where
   abbrev d : Call
   d = handed a h g
 
-  abbrev done : Call → Asked → Outcome
-  done e x = record { number = numberGiven x; text = textOf e x; areas = areasAfter e x }
-
   pub record Alike : Type 0 where
     pub shape : shaped f ≡ shaped g
-    pub sum : sumPasses (h .settings .release) f ≡ sumPasses (h .settings .release) g
+    pub sum : sumSaid (h .settings .release) f ≡ sumSaid (h .settings .release) g
     pub station : stationPasses (h .settings .release) (h .settings .station) f ≡ stationPasses (h .settings .release) (h .settings .station) g
     pub asks : shaped f ≡ true → asked c ≡ asked d
-    pub does : shaped f ≡ true → (x : Asked) → asked d ≡ x → done c x ≡ done d x
+    pub does : shaped f ≡ true → (x : Asked) → asked d ≡ x → (textOf c x ≡ textOf d x) × (areasAfter c x ≡ areasAfter d x)
 
   pub same-answers : Alike → answerOf c ≡ answerOf d
   same-answers k = go (eqb (silentOf c) 0) refl
     where
+      -- the tests before the sum, with what comes behind them
+      early-same : (n : ℕ)
+          → earlyNumber (length (h .reply)) f (h .axes) (h .settings) (lengthsOf a) (a .journal) (a .kept) n
+          ≡ earlyNumber (length (h .reply)) g (h .axes) (h .settings) (lengthsOf a) (a .journal) (a .kept) n
+      early-same n =
+          λ i.
+          cond (ltb (length (h .reply)) 1024) 1
+          (areaNumber (lengthsOf a) (a .journal) (a .kept)
+          (cond (not (axesFit (h .axes) (h .settings .fitted))) 5 (cond (not (releaseFits (h .settings .release))) 13 (cond (not (k .shape i)) 6 n))))
+
+      frame-same : frameNumber (h .settings) f 0 ≡ frameNumber (h .settings) g 0
+      frame-same =
+          let off = which (h .settings .release) f .0 ∙ ap isOff (k .sum) ∙ sym (which (h .settings .release) g .0) in
+          let wrong = which (h .settings .release) f .1 ∙ ap isWrong (k .sum) ∙ sym (which (h .settings .release) g .1) in
+          λ i. cond (off i && not (h .settings .unchecked)) 12 (cond (wrong i) 7 (cond (not (k .station i)) 8 0))
+
       silent-same : silentOf c ≡ silentOf d
       silent-same =
-          let own = areaNumber (lengthsOf a) (a .journal) (a .kept) in
           silent-is c
-          ∙ (λ i.
-          cond (ltb (length (h .reply)) 1024) 1
-          (own
-          (cond (not (axesFit (h .axes) (h .settings .fitted))) 5
-          (cond (not (releaseFits (h .settings .release))) 13 (three 6 (not (k .shape i)) (not (k .sum i)) (not (k .station i)) 0)))))
+          ∙ ap (earlyNumber (length (h .reply)) f (h .axes) (h .settings) (lengthsOf a) (a .journal) (a .kept)) frame-same
+          ∙ early-same (frameNumber (h .settings) g 0)
           ∙ sym (silent-is d)
+
+      told-same : toldOf c ≡ toldOf d
+      told-same =
+          let e =
+          early-rows (length (h .reply)) f (h .axes) (h .settings) (lengthsOf a) (a .journal) (a .kept)
+          ∙ early-same 0
+          ∙ sym (early-rows (length (h .reply)) g (h .axes) (h .settings) (lengthsOf a) (a .journal) (a .kept)) in
+          same-told-after (h .settings .release) f g e (k .sum)
 
       go : (b : Bool) → eqb (silentOf c) 0 ≡ b → answerOf c ≡ answerOf d
       go true e =
           let z = eqb-true _ _ e in
-          let s = call-passed c z .shape in
-          heard-answer c z ∙ ap (done c) (k .asks s) ∙ k .does s (asked d) refl ∙ sym (heard-answer d (sym silent-same ∙ z))
+          let s = call-passed c z .early .shape in
+          let w = k .does s (asked d) refl in
+          heard-answer c z
+          ∙ ap (λ (x : Asked). record { number = numberGiven x; text = textOf c x; areas = areasAfter c x; sum = toldOf c }) (k .asks s)
+          ∙ (λ i. record { number = numberGiven (asked d); text = w .0 i; areas = w .1 i; sum = told-same i })
+          ∙ sym (heard-answer d (sym silent-same ∙ z))
       go false e =
           let z = eqb-false _ _ e in
-          silent-answer c (silentOf c) refl z ∙ sym (silent-answer d (silentOf c) silent-same z)
+          silent-answer c (silentOf c) refl z
+          ∙ ap (λ (t : Told). unanswered t (silentOf c) a) told-same
+          ∙ sym (silent-answer d (silentOf c) silent-same z)
 
 -- a text is a 200H's, or not; '200' has no letters
 by-id : (said : List ℕ) → (is200 (take 3 said) ≡ true) ↔ (take 3 said ≡ text "200")
@@ -351,56 +392,67 @@ done-alike : (a : Areas) (h : Sent) (f g : List ℕ) (x : Asked)
     → (numberOf (rest (handed a h f .sent) m) ≡ numberOf (rest (handed a h g .sent) m))
     × (m .does ≡ SayBack → rest (handed a h f .sent) m ≡ rest (handed a h g .sent) m)
     × ((unit : ℕ) → newBytes (m .does) unit count (rest (handed a h f .sent) m) ≡ newBytes (m .does) unit count (rest (handed a h g .sent) m)))
-    → done a h f g (handed a h f) x ≡ done a h f g (handed a h g) x
-done-alike a h f g (Refused k) w = refl
+    → (textOf (handed a h f) x ≡ textOf (handed a h g) x) × (areasAfter (handed a h f) x ≡ areasAfter (handed a h g) x)
+done-alike a h f g (Refused k) w = (refl, refl)
 done-alike a h f g (Order m start count) w =
     let k = w m start count refl in
     let hold = heldIn (lengthsOf a) in
-    let t = said-alike a h f g (m .does) m start count (areaIn (m .tag) a) (k .0) (k .1) in
-    let r = ap (λ (b : List ℕ). cond (writes (m .does)) (written hold (m .tag) start count b a) a) (k .2 (kindOf hold (m .tag) .unit)) in
-    λ i. record { number = 0; text = replyOf normal (h .settings .station) (t i); areas = r i }
+    let t = said-alike a h f g (m .does) m start count (areaIn (m .tag) a) (k .0) (k .1) in (
+      ap (replyOf normal (h .settings .station)) t,
+      ap (λ (b : List ℕ). cond (writes (m .does)) (written hold (m .tag) start count b a) a) (k .2 (kindOf hold (m .tag) .unit)),
+    )
 
 -- what holds under release 2 holds of a host of that release
 at-two : {r : ℕ} → r ≡ 2 → (P : ℕ → Type 0) → P 2 → P r
 at-two e P p = subst P (sym e) p
 
--- the same text with another station and another SC, both of which pass
-module _ (a : Areas) (h : Sent) (e : h .settings .release ≡ 2) (x y : ℕ) (said sc : List ℕ)
-    (st : capitals (x ∷ y ∷ []) ≡ digitsOf 2 (h .settings .station)) (su : (capitals sc ≡ scOf (begun x y said)) ⊎ (sc ≡ text "@@")) where
+-- the same text with another station and another SC, of which the sum test says the same
+module _ (a : Areas) (h : Sent) (e : h .settings .release ≡ 2) (checked : Bool) (x y : ℕ) (said sc : List ℕ)
+    (st : capitals (x ∷ y ∷ []) ≡ digitsOf 2 (h .settings .station)) (su : checked ≡ true → capitals sc ≡ scOf (begun x y said))
+    (so : checked ≡ false → sc ≡ text "@@") where
   abbrev station : ℕ
   station = h .settings .station
 
   abbrev sent : List ℕ
   sent = framed x y said sc
 
-  abbrev command-off : List ℕ
-  command-off = commandOf false station said
+  abbrev own-sc : List ℕ
+  own-sc = cond checked (scOf (before station said)) (text "@@")
+
+  abbrev own-command : List ℕ
+  own-command = commandOf checked station said
+
+  own-long : length own-sc ≡ 2
+  own-long = two-bytes checked (before station said)
 
   sc-long : length sc ≡ 2
-  sc-long = ⊎-elim (λ q. sym (length-capitals sc) ∙ ap length q ∙ inverse 2 .as-many (lowByte (begun x y said))) (λ q. ap length q) su
+  sc-long = go checked refl
+    where
+      go : (b : Bool) → checked ≡ b → length sc ≡ 2
+      go true q = sym (length-capitals sc) ∙ ap length (su q) ∙ inverse 2 .as-many (lowByte (begun x y said))
+      go false q = ap length (so q)
 
   -- digits whose capitals are a number's are admitted
   are-admitted : (field : List ℕ) (n : ℕ) → capitals field ≡ digitsOf 2 n → admitted 2 field ≡ true
   are-admitted field n q = sym (rules field .either 1) ∙ ap (admitted 1) q ∙ inverse 2 .are-digits 1 n
 
-  sum-passes : sumPasses 2 sent ≡ true
-  unfolding sumPasses
-  sum-passes =
-      ⊎-elim
-      (λ (q : capitals sc ≡ scOf (begun x y said)).
-      let there = is-sc x y said sc sc-long in
-      let l : 4 ≤ length sent = omega (arith, framed-long x y said sc sc-long) in
-      let t =
-      true-sc 2 sent l .1
-      (ap (admitted 2) there ∙ are-admitted sc (lowByte (begun x y said)) q, ap capitals there ∙ q ∙ ap scOf (sym (is-begun x y said sc sc-long))) in
-      rw t)
-      (λ q. subst (λ (s : List ℕ). sumPasses 2 (framed x y said s) ≡ true) (sym q) (off 2 x y said))
-      su
+  sum-said : sumSaid 2 sent ≡ summedBy checked
+  sum-said = go checked refl
+    where
+      go : (b : Bool) → checked ≡ b → sumSaid 2 sent ≡ summedBy b
+      go true q =
+          let there = is-sc x y said sc sc-long in
+          let l : 4 ≤ length sent = omega (arith, framed-long x y said sc sc-long) in
+          said-true 2 sent
+          (true-sc 2 sent l .1 (
+            ap (admitted 2) there ∙ are-admitted sc (lowByte (begun x y said)) (su q),
+            ap capitals there ∙ su q ∙ ap scOf (sym (is-begun x y said sc sc-long)),
+          ))
+      go false q = subst (λ (s : List ℕ). sumSaid 2 (framed x y said s) ≡ SwitchedOff) (sym (so q)) (off 2 x y said)
 
-  same-station : stationPasses 2 station sent ≡ stationPasses 2 station command-off
+  same-station : stationPasses 2 station sent ≡ stationPasses 2 station own-command
   unfolding stationPasses
   same-station =
-      let own = digitsOf 2 station in
       ap₂ (λ (b : Bool) (n : ℕ). b && eqb n station) (are-admitted (x ∷ y ∷ []) station st ∙ sym (inverse 2 .are-digits 2 station))
       (sym (rules (x ∷ y ∷ []) .same-number) ∙ ap numberOf st)
 
@@ -409,38 +461,38 @@ module _ (a : Areas) (h : Sent) (e : h .settings .release ≡ 2) (x y : ℕ) (sa
     long-text : 3 ≤ length said
     long-text = long-enough x y said sc sc-long s
 
-    same-id : messageIn sent ≡ messageIn command-off
-    same-id = is-message x y said sc sc-long long-text ∙ sym (is-message (high station) (low station) said (text "@@") refl long-text)
+    same-id : messageIn sent ≡ messageIn own-command
+    same-id = is-message x y said sc sc-long long-text ∙ sym (is-message (high station) (low station) said own-sc own-long long-text)
 
-    same-body : contentIn sent ≡ contentIn command-off
-    same-body = is-content x y said sc sc-long long-text ∙ sym (is-content (high station) (low station) said (text "@@") refl long-text)
+    same-body : contentIn sent ≡ contentIn own-command
+    same-body = is-content x y said sc sc-long long-text ∙ sym (is-content (high station) (low station) said own-sc own-long long-text)
 
-  same-text-alike : Alike a h sent command-off
+  same-text-alike : Alike a h sent own-command
   unfolding askedOf
   same-text-alike =
       let r = h .settings .release in
       record {
-        shape = same-shape x y (high station) (low station) said said sc (text "@@") sc-long refl refl refl;
-        sum = at-two e (λ (k : ℕ). sumPasses k sent ≡ sumPasses k command-off) (sum-passes ∙ sym (off 2 (high station) (low station) said));
-        station = at-two e (λ (k : ℕ). stationPasses k station sent ≡ stationPasses k station command-off) same-station;
+        shape = same-shape x y (high station) (low station) said said sc own-sc sc-long own-long refl refl;
+        sum = at-two e (λ (k : ℕ). sumSaid k sent ≡ sumSaid k own-command) (sum-said ∙ sym (summed 2 checked station said));
+        station = at-two e (λ (k : ℕ). stationPasses k station sent ≡ stationPasses k station own-command) same-station;
         asks = λ s.
             ap₂ (λ (n : Named) (t : List ℕ). judged (heldIn (lengthsOf a)) (h .settings .fitted) r n t)
-            (message-of r sent (messageIn command-off) (same-id s) ∙ sym (message-of r command-off (messageIn command-off) refl))
+            (message-of r sent (messageIn own-command) (same-id s) ∙ sym (message-of r own-command (messageIn own-command) refl))
             (same-body s);
         does = λ s z _.
-            done-alike a h sent command-off z
+            done-alike a h sent own-command z
             (λ m start count _.
             let same = ap (restIn m) (same-body s) in
             (ap numberOf same, λ _. same, λ unit. ap (newBytes (m .does) unit count) same));
       }
 
 -- a command that isn't a 200H's, and the same in capitals
-module _ (a : Areas) (h : Sent) (e : h .settings .release ≡ 2) (said : List ℕ) (other : take 3 said ≡ text "200" → ⊥) where
+module _ (a : Areas) (h : Sent) (e : h .settings .release ≡ 2) (checked : Bool) (said : List ℕ) (other : take 3 said ≡ text "200" → ⊥) where
   abbrev as-is : List ℕ
-  as-is = commandOf false (h .settings .station) said
+  as-is = commandOf checked (h .settings .station) said
 
   abbrev as-capitals : List ℕ
-  as-capitals = commandOf false (h .settings .station) (capitals said)
+  as-capitals = commandOf checked (h .settings .station) (capitals said)
 
   abbrev X : ℕ
   X = high (h .settings .station)
@@ -448,21 +500,28 @@ module _ (a : Areas) (h : Sent) (e : h .settings .release ≡ 2) (said : List �
   abbrev Y : ℕ
   Y = low (h .settings .station)
 
+  -- its SC, and that of the same in capitals
+  abbrev sc-of : List ℕ → List ℕ
+  sc-of t = cond checked (scOf (before (h .settings .station) t)) (text "@@")
+
+  long-sc : (t : List ℕ) → length (sc-of t) ≡ 2
+  long-sc t = two-bytes checked (before (h .settings .station) t)
+
   module _ (s : shaped as-is ≡ true) where
     long : 3 ≤ length said
-    long = long-enough X Y said (text "@@") refl s
+    long = long-enough X Y said (sc-of said) (long-sc said) s
 
     long-capitals : 3 ≤ length (capitals said)
     long-capitals = omega (arith, long, length-capitals said)
 
     body : contentIn as-is ≡ drop 3 said
-    body = is-content X Y said (text "@@") refl long
+    body = is-content X Y said (sc-of said) (long-sc said) long
 
     body-capitals : contentIn as-capitals ≡ capitals (drop 3 said)
-    body-capitals = is-content X Y (capitals said) (text "@@") refl long-capitals ∙ drop-capitals 3 said
+    body-capitals = is-content X Y (capitals said) (sc-of (capitals said)) (long-sc (capitals said)) long-capitals ∙ drop-capitals 3 said
 
     id-capitals : messageIn as-capitals ≡ capitals (take 3 said)
-    id-capitals = is-message X Y (capitals said) (text "@@") refl long-capitals ∙ take-capitals 3 said
+    id-capitals = is-message X Y (capitals said) (sc-of (capitals said)) (long-sc (capitals said)) long-capitals ∙ take-capitals 3 said
 
     same-asked : asked (handed a h as-is) ≡ asked (handed a h as-capitals)
     unfolding askedOf
@@ -474,7 +533,7 @@ module _ (a : Areas) (h : Sent) (e : h .settings .release ≡ 2) (said : List �
         let id : messageOf r as-capitals ≡ n =
         message-of r as-capitals (capitals (take 3 said)) id-capitals
         ∙ at-two e (λ (k : ℕ). messageNamed k (capitals (take 3 said)) ≡ messageNamed k (take 3 said)) (same-named (take 3 said)) in
-        ap₂ (λ (k : Named) (t : List ℕ). judged H F r k t) (message-of r as-is (take 3 said) (is-message X Y said (text "@@") refl long)) body
+        ap₂ (λ (k : Named) (t : List ℕ). judged H F r k t) (message-of r as-is (take 3 said) (is-message X Y said (sc-of said) (long-sc said) long)) body
         ∙ sym (at-two e (λ (k : ℕ). judged H F k n (capitals (drop 3 said)) ≡ judged H F k n (drop 3 said)) (same-judged H F n (drop 3 said)))
         ∙ sym (ap₂ (λ (k : Named) (t : List ℕ). judged H F r k t) id body-capitals)
 
@@ -485,16 +544,17 @@ module _ (a : Areas) (h : Sent) (e : h .settings .release ≡ 2) (said : List �
     not-test : (m : Message) (start count : ℕ) → asked (handed a h as-capitals) ≡ Order m start count → m .does ≡ SayBack → ⊥
     not-test =
         not-said-back (handed a h as-capitals) (λ i. other (no-letters (take 3 said) (sym id-capitals ∙ i)))
-        (omega (arith, framed-long X Y (capitals said) (text "@@") refl, long-capitals))
+        (omega (arith, framed-long X Y (capitals said) (sc-of (capitals said)) (long-sc (capitals said)), long-capitals))
 
   capitals-alike : Alike a h as-is as-capitals
   unfolding stationPasses
   capitals-alike =
       record {
         shape =
-            same-shape X Y X Y said (capitals said) (text "@@") (text "@@") refl refl (sym (length-capitals said))
+            same-shape X Y X Y said (capitals said) (sc-of said) (sc-of (capitals said)) (long-sc said) (long-sc (capitals said)) (sym (length-capitals said))
             (other-fits said other ∙ sym (other-fits (capitals said) (other-capitals said other)));
-        sum = off (h .settings .release) X Y said ∙ sym (off (h .settings .release) X Y (capitals said));
+        sum =
+            summed (h .settings .release) checked (h .settings .station) said ∙ sym (summed (h .settings .release) checked (h .settings .station) (capitals said));
         station = refl;
         asks = same-asked;
         does = λ s z q.
@@ -509,19 +569,24 @@ module _ (a : Areas) (h : Sent) (e : h .settings .release ≡ 2) (said : List �
 
 -- "release 2, either": first station and SC, then what is said
 either : Either ours
-either a h e st said sc plain i = go st (sym (length-capitals st) ∙ ap length (i .station-is) ∙ inverse 2 .as-many (h .settings .station)) i
+either a h e checked st said sc plain i = go st (sym (length-capitals st) ∙ ap length (i .station-is) ∙ inverse 2 .as-many (h .settings .station)) i
   where
-    said-plain : EitherSize h st said sc plain → answerOf (asking a h false said) ≡ answerOf (asking a h false plain)
+    said-plain : EitherSize h checked st said sc plain → answerOf (asking a h checked said) ≡ answerOf (asking a h checked plain)
     said-plain i =
-        ⊎-elim (λ q. ap (λ (s : List ℕ). answerOf (asking a h false s)) (sym (i .test-call q)))
-        (λ q. same-answers a h (as-is a h e said q) (as-capitals a h e said q) (capitals-alike a h e said q) ∙ ap (λ (s : List ℕ). answerOf (asking a h false s)) (sym (i .other q)))
+        ⊎-elim (λ q. ap (λ (s : List ℕ). answerOf (asking a h checked s)) (sym (i .test-call q)))
+        (λ q.
+        same-answers a h (as-is a h e checked said q) (as-capitals a h e checked said q) (capitals-alike a h e checked said q)
+        ∙ ap (λ (s : List ℕ). answerOf (asking a h checked s)) (sym (i .other q)))
         (is-200 said)
 
-    go : (t : List ℕ) → length t ≡ 2 → EitherSize h t said sc plain → answerOf (handed a h (frameWith t said sc)) ≡ answerOf (asking a h false plain)
+    go : (t : List ℕ) → length t ≡ 2 → EitherSize h checked t said sc plain
+        → answerOf (handed a h (frameWith t said sc)) ≡ answerOf (asking a h checked plain)
     go [] l k = absurd (omega arith)
     go (x ∷ []) l k = absurd (omega arith)
     go (x ∷ y ∷ []) l k =
-        same-answers a h (framed x y said sc) (commandOf false (h .settings .station) said) (same-text-alike a h e x y said sc (k .station-is) (k .sc-is)) ∙ said-plain i
+        same-answers a h (framed x y said sc) (commandOf checked (h .settings .station) said)
+        (same-text-alike a h e checked x y said sc (k .station-is) (k .sc-true) (k .sc-off))
+        ∙ said-plain i
     go (x ∷ y ∷ z ∷ t) l k = absurd (omega arith)
 
 pub releases : Releases ours

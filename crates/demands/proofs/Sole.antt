@@ -4,6 +4,7 @@ use mathlib.Core.Path.{_≡_, sym, ap, _∙_}
 use mathlib.Core.List.{List}
 use Rattle.link.specs.declared.Answered.{Answered}
 use Rattle.link.specs.declared.Back.{Back}
+use Rattle.link.specs.Answer.{answerOf}
 use Rattle.board.specs.Calls.{answeredOf, backedOf}
 use Rattle.demands.specs.Sole.{OneAnswer, OneStepBack, OneFound, OneReceive, OneCabinetAnswer, OneCabinetBack}
 
@@ -13,7 +14,8 @@ one-answer c r r′ a a′ reply reply′ x y =
     let l : r .length ≡ r′ .length = x .length-is ∙ sym (y .length-is) in
     let q : a ≡ a′ = x .areas-are ∙ sym (y .areas-are) in
     let h : r .kept ≡ r′ .kept = x .kept-is ∙ sym (y .kept-is) in
-    (λ i. record { number = n i; length = l i; kept = h i }, q, x .reply-is ∙ sym (y .reply-is))
+    let s : r .sum ≡ r′ .sum = x .sum-is ∙ sym (y .sum-is) in
+    (λ i. record { number = n i; length = l i; kept = h i; sum = s i }, q, x .reply-is ∙ sym (y .reply-is))
 
 pub one-step-back : OneStepBack
 one-step-back before r r′ a a′ x y =
@@ -30,9 +32,10 @@ one-receive f c c′ s s′ l l′ d d′ x y =
     (x .code-is ∙ sym (y .code-is), x .start-is ∙ sym (y .start-is), x .length-is ∙ sym (y .length-is), x .drop-is ∙ sym (y .drop-is))
 
 pub one-cabinet-answer : OneCabinetAnswer
-one-cabinet-answer c n n′ l l′ u u′ a a′ reply reply′ x y =
-    let h = one-answer c (answeredOf n l u) (answeredOf n′ l′ u′) a a′ reply reply′ x y in
-    (ap (λ (r : Answered). r .number) (h .0), ap (λ (r : Answered). r .length) (h .0), ap (λ (r : Answered). r .kept .used) (h .0), h .1, h .2)
+one-cabinet-answer c n n′ l l′ u u′ s s′ a a′ reply reply′ x y =
+    let t = answerOf c .sum in
+    let h = one-answer c (answeredOf n l u t) (answeredOf n′ l′ u′ t) a a′ reply reply′ (x .answers) (y .answers) in
+    (ap (λ (r : Answered). r .number) (h .0), ap (λ (r : Answered). r .length) (h .0), ap (λ (r : Answered). r .kept .used) (h .0), x .sum-is ∙ sym (y .sum-is), h .1, h .2)
 
 pub one-cabinet-back : OneCabinetBack
 one-cabinet-back before n n′ u u′ a a′ x y =

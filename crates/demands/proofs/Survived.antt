@@ -106,7 +106,7 @@ heard-again id c a =
     let t = taken c a in
     let p = call-passed c (t .heard) in
     let f = fine c (t .heard) in
-    record { reply-long = f .reply-long; axes-fit = p .axes-fit; release-fits = p .release-fits; station-byte = station-byte (c .sent .settings .release) (c .sent .settings .station) (c .sent .frame) (f .frame-long) (p .station) }
+    record { reply-long = f .reply-long; axes-fit = p .early .axes-fit; release-fits = p .early .release-fits; station-byte = station-byte (c .sent .settings .release) (c .sent .settings .station) (c .sent .frame) (f .frame-long) (p .station) }
 
 written-once : (c : Call) (a : Accepted 0x244 c) → Once ours (a .message) c (countOf (a .message) (c .sent))
 written-once c a =

@@ -22,18 +22,19 @@ use Rattle.kinds.specs.Kinds.{heldIn}
 use Rattle.table.specs.declared.Named.{Named}
 use Rattle.messages.specs.Asked.{askedOf, judged, numberGiven}
 use Rattle.messages.proofs.Judged.{Right, ordered}
+use Rattle.calls.specs.declared.Told.{Told}
 use Rattle.calls.specs.Calls.{Areas, Sent, Call, Outcome, lengthsOf}
 use Rattle.refusals.specs.Refusals.{silentOf}
-use Rattle.refusals.proofs.Rows.{area-rows, areas-pass, past-areas, ownNumber, silent-is, call-passed}
+use Rattle.refusals.proofs.Rows.{area-rows, areas-pass, past-areas, ownNumber, frameNumber, earlyNumber, early-rows, silent-is, call-passed, told-untested}
 use Rattle.refusals.proofs.Tested.{shape}
-use Rattle.link.specs.Answer.{held, asked, answerOf}
+use Rattle.link.specs.Answer.{held, asked, unanswered, answerOf}
 use Rattle.link.proofs.Answering.{silent-answer}
 use Rattle.demands.specs.Refused.{asksWrite}
 use Rattle.demands.specs.History.{ours}
-use Rattle.demands.specs.Reading.{before as beforeSC, asking, Host}
+use Rattle.demands.specs.Reading.{before as beforeSC, asking, Host, allowed}
 use Rattle.demands.specs.TestCalls.{testCall, handed, toFound, Unrefused, SaidBack, EveryTestCall, OtherLength, NoErrorReply, TestCalls}
 use Rattle.demands.proofs.Refused.{answer-either, silent-low, query-changes-nothing}
-use Rattle.demands.proofs.Commands.{testFits, framed, framed-long, ends, before-long, high, low, testing, message-of, named}
+use Rattle.demands.proofs.Commands.{testFits, framed, framed-long, ends, before-long, high, low, two-bytes, testing, message-of, named}
 use Rattle.demands.proofs.Replied.{test-call-back}
 use Rattle.demands.proofs.Asking.{Open, TakenAs, taken-as}
 
@@ -77,12 +78,7 @@ module _ (station : ℕ) (ten sc : List ℕ) (l : length ten ≡ 10) (two : leng
         ap (drop 18) (ends (high station) (low station) said sc two) ∙ drop-at (beforeSC station said ++ sc) (CR ∷ LF ∷ []) 18 (omega (arith, before-long (high station) (low station) said sc two, said-long)) in
         ap (take 2) (drop-append-le 18 frame behind (omega (arith, frame-long)) ∙ ap (λ (l : List ℕ). l ++ behind) e)
 
--- both SCs have two bytes
-two-bytes : (checked : Bool) (s : List ℕ) → length (cond checked (scOf s) (text "@@")) ≡ 2
-two-bytes true s = refl
-two-bytes false s = refl
-
-module _ (a : Areas) (o : Open a) (h : Sent) (host : Host h) (checked : Bool) (ten : List ℕ) (l : length ten ≡ 10) where
+module _ (a : Areas) (o : Open a) (h : Sent) (host : Host h) (checked : Bool) (g : allowed h checked ≡ true) (ten : List ℕ) (l : length ten ≡ 10) where
   abbrev asks : List ℕ
   asks = text "200" ++ ten
 
@@ -93,7 +89,7 @@ module _ (a : Areas) (o : Open a) (h : Sent) (host : Host h) (checked : Bool) (t
   fits = eq-eqb (length asks) 13 (omega arith)
 
   takes : TakenAs testing a h checked asks
-  takes = taken-as a asks testing o (omega arith) (omega arith) fits (named .5) (λ fitted release. right-ten (heldIn (lengthsOf a)) fitted release ten l) h host checked
+  takes = taken-as a asks testing o (omega arith) (omega arith) fits (named .5) (λ fitted release. right-ten (heldIn (lengthsOf a)) fitted release ten l) h host checked g
 
   -- the ten bytes come back
   ten-back : answerOf call .text ≡ replyOf normal (h .settings .station) asks
@@ -145,7 +141,7 @@ pub opened : (a : Areas) → Unrefused a → Open a
 opened a e = areas-pass (lengthsOf a) (a .journal) (a .kept) (sym (area-rows (lengthsOf a) (a .journal) (a .kept)) ∙ e) .0
 
 every-test-call : EveryTestCall findIn ours
-every-test-call a e h host checked ten before behind l q = said-back a (opened a e) h host checked ten l before behind q
+every-test-call a e h host checked g ten before behind l q = said-back a (opened a e) h host checked g ten l before behind q
 
 -- a shaped frame whose ID is '200' has 20 bytes
 twenty : (f : List ℕ) → messageIn f ≡ text "200" → shaped f ≡ true → length f ≡ 20
@@ -154,16 +150,9 @@ twenty f e s = eqb-true _ _ (rw (test-id f .1 e) at (shape f s .test-call))
 other-length : OtherLength ours
 other-length a e h host f m n =
     let c = handed a h f in
-    let six : silentOf c ≡ 6 =
-    silent-is c
-    ∙ rw (
-      le-ltb (length (h .reply)) 1024 (host .reply-long),
-      past-areas (lengthsOf a) (a .journal) (a .kept) (opened a e) (ownNumber (h .axes) (h .settings) f 0),
-      host .axes-fit,
-      host .release-fits,
-      no-shape,
-    ) in
-    silent-answer c 6 (sym six) (λ z. omega (arith, z))
+    let early = early-rows (length (h .reply)) f (h .axes) (h .settings) (lengthsOf a) (a .journal) (a .kept) ∙ six 0 in
+    silent-answer c 6 (sym (silent-is c ∙ six (frameNumber (h .settings) f 0))) (λ z. omega (arith, z))
+    ∙ ap (λ (t : Told). unanswered t 6 a) (told-untested (h .settings .release) f (λ z. let n : _≡_ {A = ℕ} 6 0 = sym early ∙ z in omega (arith, n)))
   where
     no-shape : shaped f ≡ false
     no-shape = go (shaped f) refl
@@ -172,13 +161,24 @@ other-length a e h host f m n =
         go true s = absurd (n (twenty f m s))
         go false s = s
 
+    -- whatever comes behind
+    six : (k : ℕ) → earlyNumber (length (h .reply)) f (h .axes) (h .settings) (lengthsOf a) (a .journal) (a .kept) k ≡ 6
+    six k =
+        rw (
+          le-ltb (length (h .reply)) 1024 (host .reply-long),
+          past-areas (lengthsOf a) (a .journal) (a .kept) (opened a e) (ownNumber (h .axes) (h .settings) f k),
+          host .axes-fit,
+          host .release-fits,
+          no-shape,
+        )
+
 -- one that is heard is accepted
 module _ (c : Call) (e : messageIn (c .sent .frame) ≡ text "200") where
   taken : silentOf c ≡ 0 → numberGiven (asked c) ≡ 0
   unfolding askedOf
   taken z =
       let f = c .sent .frame in
-      let n = twenty f e (call-passed c z .shape) in
+      let n = twenty f e (call-passed c z .early .shape) in
       let t : length (contentIn f) ≡ 10 = length-take-le (length f - 10) (drop 6 f) (simp length-drop (omega arith)) ∙ omega arith in
       let s = c .sent .settings in
       let m = message-of (s .release) f (text "200") e ∙ named .5 (s .release) in

@@ -117,7 +117,7 @@ module _ (m : Message) (c : Call) (t : Took m c) where
   open-after bs = go (writes (m .does)) refl
     where
       passed : Open (c .areas)
-      passed = call-passed c (t .heard) .areas
+      passed = call-passed c (t .heard) .early .areas
 
       go : (b : Bool) → writes (m .does) ≡ b → Open (answerOf c .areas)
       go true w =

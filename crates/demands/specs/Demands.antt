@@ -5,6 +5,7 @@ use Rattle.demands.specs.History.{ours, EveryHistory}
 use Rattle.demands.specs.Survive.{HeardAgain, EveryDigitSurvives}
 use Rattle.demands.specs.TestCalls.{TestCalls}
 use Rattle.demands.specs.Releases.{Releases, SameAnswer}
+use Rattle.demands.specs.SwitchedOff.{SwitchedOffRule, ContractAsBefore}
 
 -- "A frame that is refused changes no point, no column and nothing in the journal, and a refusal has one number and one fixed reply, or none."; no
 -- integer and no flag either (02, a)
@@ -29,6 +30,9 @@ pub record Demand2 : Type 0 where
   -- "release 1, capitals only; release 2, either", and what release 1 accepts is answered the same (02, l)
   pub releases : Releases ours
   pub same-answer : SameAnswer
+  -- "With the setting on, demand 2 reads as before"; where '@@' is forbidden; and "which it was" (02, f)
+  pub switched-off : SwitchedOffRule ours
+  pub contract-as-before : ContractAsBefore
 
 -- "After any sequence of frames and steps back, points and columns are exactly what the accepted writes not taken back would leave"; "all four kinds"
 -- (02, a)

@@ -1,6 +1,6 @@
 -- Demand 3: histories of frames and steps back, from fresh. "use the same ones throughout, hand each call the used length the last one handed back,
--- and let nothing else write them"; the first numbers stay too: "while the settings stay as they were at fresh" (02, a). Station, axes and
--- release come with each frame.
+-- and let nothing else write them"; the first numbers stay too: "while the settings stay as they were at fresh" (02, a). Station, axes,
+-- release and whether '@@' is allowed come with each frame.
 use Prim.Native.Nat.{ℕ, _≤_}
 use mathlib.Core.Path.{_≡_}
 use mathlib.Core.Logic.{_↔_}

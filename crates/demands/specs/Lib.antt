@@ -6,4 +6,5 @@ pub mod Reading
 pub mod Survive
 pub mod TestCalls
 pub mod Releases
+pub mod SwitchedOff
 pub mod Demands

@@ -55,14 +55,20 @@ pub record Host (h : Sent) : Type 0 where
   pub release-fits : releaseFits (h .settings .release) ≡ true
   pub station-byte : h .settings .station < 256
 
+-- a true SC, or '@@' where it is allowed (02, f)
+abbrev pub allowed : Sent → Bool → Bool
+allowed h checked = checked || h .settings .unchecked
+
 -- what it asks of areas
 abbrev pub asking : Areas → Sent → Bool → List ℕ → Call
 asking a h checked asked = callOf (commandOf checked (h .settings .station) asked) (h .axes) (h .settings) (h .reply) a
 
--- asked this over areas, by any such host, with a true SC or with '@@', a board accepts it ("An accepted call has number 0") and says that
+-- asked this over areas, by any such host, with a true SC or with '@@' where that is allowed, a board accepts it ("An accepted call has number 0") and says that
 pub record Says (board : Conduct) (a : Areas) (asked said : List ℕ) : Type 0 where
-  pub number : (h : Sent) → Host h → (checked : Bool) → board .answer (asking a h checked asked) .number ≡ 0
-  pub text : (h : Sent) → Host h → (checked : Bool) → board .answer (asking a h checked asked) .text ≡ replyOf normal (h .settings .station) said
+  pub number : (h : Sent) → Host h → (checked : Bool) → allowed h checked ≡ true → board .answer (asking a h checked asked) .number ≡ 0
+  pub text :
+      (h : Sent) → Host h → (checked : Bool) → allowed h checked ≡ true
+      → board .answer (asking a h checked asked) .text ≡ replyOf normal (h .settings .station) said
 
 -- a message with its content names none of so many numbers of a kind: it names another kind, or numbers before them, or behind them
 abbrev pub spares : ℕ → ℕ → ℕ → Named → List ℕ → Bool

@@ -20,9 +20,10 @@ pub record OneNumber : Type 0 where
   pub frame : (c : Call) → answerOf c .number ≡ refusalOf c
   pub back : (a : Areas) → backOf a .number ≡ backRefusalOf a
 
--- a frame's numbers ("Refusal numbers"; 02, a and l): "An accepted call has number 0", 1 to 8, 10 and 13 come without a reply, 101 to 108 with the error reply
+-- a frame's numbers ("Refusal numbers"; 02, a, f and l): "An accepted call has number 0", 1 to 8, 10, 12 and 13 come without a reply, 101 to 108 with the
+-- error reply
 abbrev pub frameNumbers : List ℕ
-frameNumbers = 0 ∷ 1 ∷ 2 ∷ 3 ∷ 10 ∷ 4 ∷ 5 ∷ 13 ∷ 6 ∷ 7 ∷ 8 ∷ 101 ∷ 102 ∷ 103 ∷ 104 ∷ 105 ∷ 106 ∷ 107 ∷ 108 ∷ []
+frameNumbers = 0 ∷ 1 ∷ 2 ∷ 3 ∷ 10 ∷ 4 ∷ 5 ∷ 13 ∷ 6 ∷ 12 ∷ 7 ∷ 8 ∷ 101 ∷ 102 ∷ 103 ∷ 104 ∷ 105 ∷ 106 ∷ 107 ∷ 108 ∷ []
 
 -- the step back's: it "tests 2, 3, 4, then 9" ("Refusal numbers"), and 10 after 3 (02, a)
 abbrev pub backNumbers : List ℕ
@@ -55,7 +56,7 @@ pub record OneReply : Type 0 where
   pub back : (a : Areas) → backOf a .text ≡ []
 
 -- "Granted that no refusal without a reply holds for the call, an error reply depends on frame, station, N and fitted axes only", and "may depend on
--- settings too" (02, a), the first numbers and the release (02, l): two such calls
+-- settings too" (02, a), the first numbers and the release (02, l), and not on `unchecked` (02, f): two such calls
 pub record SameError (c d : Call) : Type 0 where
   pub frame : c .sent .frame ≡ d .sent .frame
   pub station : c .sent .settings .station ≡ d .sent .settings .station

@@ -1,8 +1,7 @@
 -- Demand 2 of cabinet releases: "release 1, capitals only; release 2, either, in ID, station, content and SC." (02, l)
 use Prim.Native.Nat.{ℕ}
 use mathlib.Core.Path.{_≡_}
-use mathlib.Core.Bool.{false}
-use mathlib.Core.Logic.{_⊎_}
+use mathlib.Core.Bool.{Bool, true, false}
 use mathlib.Core.List.{List, _∷_, _++_}
 use lib.ListN.{take}
 use Rattle.digits.specs.Digits.{capitals, digitsOf}
@@ -18,7 +17,8 @@ use Rattle.demands.specs.TestCalls.{handed}
 -- a call under a release, whatever it was handed over with
 abbrev pub under : ℕ → Call → Call
 under release c =
-    callOf (c .sent .frame) (c .sent .axes) (record { station = c .sent .settings .station; release = release; fitted = c .sent .settings .fitted })
+    let s = c .sent .settings in
+    callOf (c .sent .frame) (c .sent .axes) (record { station = s .station; release = release; unchecked = s .unchecked; fitted = s .fitted })
     (c .sent .reply) (c .areas)
 
 -- none of 'a' to 'f' stands there
@@ -36,20 +36,22 @@ abbrev pub CapitalsOnly : Conduct → Type 0
 CapitalsOnly board = (c : Call) → board .answer (under 1 c) .number ≡ 0 → Plain (c .sent .frame)
 
 -- a frame in letters of either size, and what it says in capitals
-pub record EitherSize (h : Sent) (station said sc plain : List ℕ) : Type 0 where
+pub record EitherSize (h : Sent) (checked : Bool) (station said sc plain : List ℕ) : Type 0 where
   -- the host's own station
   pub station-is : capitals station ≡ digitsOf 2 (h .settings .station)
   -- "The sum is always of the bytes as sent", or '@@'
-  pub sc-is : (capitals sc ≡ scOf (command ∷ (station ++ said))) ⊎ (sc ≡ text "@@")
+  pub sc-true : checked ≡ true → capitals sc ≡ scOf (command ∷ (station ++ said))
+  pub sc-off : checked ≡ false → sc ≡ text "@@"
   -- "200H's ten bytes stay as sent"
   pub test-call : take 3 said ≡ text "200" → plain ≡ said
   pub other : (take 3 said ≡ text "200" → ⊥) → plain ≡ capitals said
 
--- "release 2, either": such a frame is answered as the command with '@@' that says it in capitals: number, reply and areas
+-- "release 2, either": such a frame is answered as the command that says it in capitals, with a true SC or '@@' as it has: number, reply, areas and what is
+-- told of the sum
 abbrev pub Either : Conduct → Type 0
 Either board =
-    (a : Areas) (h : Sent) → h .settings .release ≡ 2 → (station said sc plain : List ℕ) → EitherSize h station said sc plain
-    → board .answer (handed a h (frameWith station said sc)) ≡ board .answer (asking a h false plain)
+    (a : Areas) (h : Sent) → h .settings .release ≡ 2 → (checked : Bool) (station said sc plain : List ℕ) → EitherSize h checked station said sc plain
+    → board .answer (handed a h (frameWith station said sc)) ≡ board .answer (asking a h checked plain)
 
 -- "Replies stay in capitals, and 200H's ten bytes stay as sent"
 abbrev pub RepliesInCapitals : Conduct → Type 0

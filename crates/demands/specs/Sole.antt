@@ -8,7 +8,7 @@ use Rattle.calls.specs.Calls.{Areas, Call}
 use Rattle.link.specs.declared.Answered.{Answered}
 use Rattle.link.specs.declared.Back.{Back}
 use Rattle.link.specs.Contract.{Answers, StepsBack}
-use Rattle.board.specs.Calls.{Receives, answeredOf, backedOf}
+use Rattle.board.specs.Calls.{Receives, CabinetAnswers, backedOf}
 
 -- `answer` and `answer_lent`: every number and every lent byte
 abbrev pub OneAnswer : Type 0
@@ -32,12 +32,12 @@ OneReceive =
     (f : Found) (code code′ start start′ length length′ drop drop′ : ℕ) → Receives f code start length drop → Receives f code′ start′ length′ drop′
     → (code ≡ code′) × (start ≡ start′) × (length ≡ length′) × (drop ≡ drop′)
 
--- `cabinet_answer`: its number, `*reply_length`, `*used`, and every lent byte
+-- `cabinet_answer`: its number, `*reply_length`, `*used`, `*sum`, and every lent byte
 abbrev pub OneCabinetAnswer : Type 0
 OneCabinetAnswer =
-    (c : Call) (n n′ l l′ u u′ : ℕ) (a a′ : Areas) (reply reply′ : List ℕ)
-    → Answers c (answeredOf n l u) a reply → Answers c (answeredOf n′ l′ u′) a′ reply′
-    → (n ≡ n′) × (l ≡ l′) × (u ≡ u′) × (a ≡ a′) × (reply ≡ reply′)
+    (c : Call) (n n′ l l′ u u′ s s′ : ℕ) (a a′ : Areas) (reply reply′ : List ℕ)
+    → CabinetAnswers c n l u s a reply → CabinetAnswers c n′ l′ u′ s′ a′ reply′
+    → (n ≡ n′) × (l ≡ l′) × (u ≡ u′) × (s ≡ s′) × (a ≡ a′) × (reply ≡ reply′)
 
 -- `cabinet_step_back`: its number, `*used`, and every lent byte
 abbrev pub OneCabinetBack : Type 0

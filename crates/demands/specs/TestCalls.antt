@@ -1,7 +1,7 @@
 -- Demand 2 of test calls: "The maker says the ten bytes of 200H are arbitrary. [..] Demand 2 reads so from here." (02, c)
 use Prim.Native.Nat.{ℕ, _+_, _<_}
 use mathlib.Core.Path.{_≡_}
-use mathlib.Core.Bool.{Bool}
+use mathlib.Core.Bool.{Bool, true}
 use mathlib.Core.List.{List, _++_}
 use lib.ListN.{length}
 use Rattle.digits.specs.Text.{text}
@@ -11,11 +11,12 @@ use Rattle.finder.specs.declared.Found.the-variants.{Frame}
 use Rattle.finder.specs.Find.{findIn, partOf}
 use Rattle.finder.specs.Laws.{Quiet, TestCallRule, FoundAsBefore}
 use Rattle.messages.specs.Rows.{firstOf}
+use Rattle.calls.specs.declared.Told.the-variants.{Untested}
 use Rattle.calls.specs.Calls.{Areas, Sent, Call, Outcome, callOf, lengthsOf}
 use Rattle.refusals.specs.Refusals.{areaRows}
 use Rattle.link.specs.Answer.{unanswered}
 use Rattle.demands.specs.History.{Conduct, ours}
-use Rattle.demands.specs.Reading.{commandOf, Host}
+use Rattle.demands.specs.Reading.{commandOf, Host, allowed}
 
 -- a test call to the host's station, with a true SC or '@@'
 abbrev pub testCall : Sent → Bool → List ℕ → List ℕ
@@ -45,7 +46,8 @@ pub record SaidBack (find : List ℕ → Found) (board : Conduct) (a : Areas) (h
 -- follows (02, c)
 abbrev pub EveryTestCall : (List ℕ → Found) → Conduct → Type 0
 EveryTestCall find board =
-    (a : Areas) → Unrefused a → (h : Sent) → Host h → (checked : Bool) (ten before behind : List ℕ) → length ten ≡ 10 → Quiet before
+    (a : Areas) → Unrefused a → (h : Sent) → Host h → (checked : Bool) → allowed h checked ≡ true → (ten before behind : List ℕ) → length ten ≡ 10
+    → Quiet before
     → SaidBack find board a h (testCall h checked ten) ten (length before) (before ++ (testCall h checked ten ++ behind))
 
 -- "6 also covers a 200H frame of another length" (02, c): over areas that no test refuses, from any host that is heard, whatever its station bytes and
@@ -53,7 +55,7 @@ EveryTestCall find board =
 abbrev pub OtherLength : Conduct → Type 0
 OtherLength board =
     (a : Areas) → Unrefused a → (h : Sent) → Host h → (frame : List ℕ) → messageIn frame ≡ text "200" → (length frame ≡ 20 → ⊥)
-    → board .answer (handed a h frame) ≡ unanswered 6 a
+    → board .answer (handed a h frame) ≡ unanswered Untested 6 a
 
 -- so no call with a 200H has an error reply, and none is refused 103: it is accepted, or refused without a reply
 abbrev pub NoErrorReply : Conduct → Type 0

@@ -3,4 +3,5 @@ pub mod Bools
 pub mod Closing
 pub mod Promised
 pub mod TestID
+pub mod Three
 pub mod Worked

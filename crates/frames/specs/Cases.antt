@@ -3,7 +3,8 @@ use Prim.Native.Nat.{ℕ}
 use mathlib.Core.Path.{_≡_}
 use mathlib.Core.Bool.{true, false}
 use Rattle.digits.specs.Text.{text}
-use Rattle.frames.specs.Frame.{normal, sumOf, scOf, hasTestID, shaped, sumPasses, stationPasses, replyOf, errorOf}
+use Rattle.frames.specs.declared.checks.Sum.the-variants.{True, SwitchedOff, Wrong}
+use Rattle.frames.specs.Frame.{normal, sumOf, scOf, hasTestID, shaped, sumPasses, sumSaid, stationPasses, replyOf, errorOf}
 
 pub record Cases : Type 0 where
   -- Proved cases, 1; 000, section 3: "Total sum [..] = 254H", "The checksum is calculated as '54.'"
@@ -13,6 +14,10 @@ pub record Cases : Type 0 where
   -- Proved cases, 2: the same with SC 55; 3: with @@
   pub wrong : sumPasses 1 (text "!9920900100555\r\n") ≡ false
   pub off : sumPasses 1 (text "!99209001005@@\r\n") ≡ true
+  -- 02, f: which of three each of these is; '@' once, before or behind a digit, is wrong
+  pub said :
+      (sumSaid 1 (text "!9920900100554\r\n") ≡ True) × (sumSaid 1 (text "!99209001005@@\r\n") ≡ SwitchedOff) × (sumSaid 1 (text "!9920900100555\r\n") ≡ Wrong)
+  pub once : (sumSaid 1 (text "!99209001005@4\r\n") ≡ Wrong) × (sumSaid 1 (text "!992090010055@\r\n") ≡ Wrong)
   -- Run and compared: SC 5a for 5A is refused (test 7); 02, l: under release 1, and not under release 2
   pub capital-sum : sumOf (text "!99209001029") ≡ 0x25A
   pub capital : (release : ℕ) → sumPasses release (text "!992090010295A\r\n") ≡ true

@@ -1,10 +1,12 @@
--- Document 01, "Frame", and the tests 6, 7 and 8 of its refusal table, with document 02, requests c and l; source document 000, sections 3 and 4-3-1.
+-- Document 01, "Frame", and the tests 6, 7 and 8 of its refusal table, with document 02, requests c, f and l; source document 000, sections 3 and 4-3-1.
 use Prim.Native.Nat.{ℕ, _+_, _-_, _/_, _%_}
-use mathlib.Core.Bool.{Bool, not, _&&_, _||_}
+use mathlib.Core.Bool.{Bool, cond, not, _&&_, _||_}
 use mathlib.Core.List.{List, [], _∷_, _++_}
 use lib.ListN.{length, take, drop, getD}
 use lib.Dec.{leb, eqb}
 use Rattle.digits.specs.Digits.{byteOf, digitsOf, admitted, numberOf}
+use Rattle.frames.specs.declared.checks.Sum.{Sum}
+use Rattle.frames.specs.declared.checks.Sum.the-variants.{True, SwitchedOff, Wrong}
 
 -- "Header '!'"; "Replies start '#', or '&' for an error" (Frame; 000, section 3)
 abbrev pub command : ℕ
@@ -83,6 +85,10 @@ sumOff frame = eqb (getD (scIn frame) 0 0) 0x40 && eqb (getD (scIn frame) 1 0) 0
 -- Test 7, passed: the SC is "true" or "'@@'"
 unfoldable pub sumPasses : ℕ → List ℕ → Bool
 sumPasses release frame = sumTrue release frame || sumOff frame
+
+-- "The sum test must answer one of three: true, switched off, wrong." (02, f)
+unfoldable pub sumSaid : ℕ → List ℕ → Sum
+sumSaid release frame = cond (sumTrue release frame) True (cond (sumOff frame) SwitchedOff Wrong)
 
 -- Test 8, passed: the station is "digits" and does not differ
 unfoldable pub stationPasses : ℕ → ℕ → List ℕ → Bool

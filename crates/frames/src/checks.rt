@@ -3,7 +3,14 @@ use digits::Field;
 ghost use mathlib.Core.Path.{_≡_};
 ghost use Prim.Native.Nat.{_≤_};
 ghost use lib.ListN.{length};
-ghost use Rattle.frames.specs.Frame.{hasTestID, shaped, saysNumber, sumTrue, sumOff, sumPasses, stationPasses};
+ghost use Rattle.frames.specs.Frame.{hasTestID, shaped, saysNumber, sumTrue, sumOff, sumSaid, stationPasses};
+
+// What the sum test says of a frame (document 02, f).
+pub enum Sum {
+    True,
+    SwitchedOff,
+    Wrong,
+}
 
 // A test call: its ID is '200'. With fewer than six bytes the ID isn't all there.
 pub fn has_test_id(frame: &[u8]) -> bool
@@ -80,15 +87,18 @@ pub fn is_sum_off(frame: &[u8]) -> bool
     frame[n + 1] == 0x40
 }
 
-// Test 7, passed: the SC is true or '@@'.
-pub fn passes_sum(release: u8, frame: &[u8]) -> bool
+// Tests 12 and 7 look at this: the SC is true, '@@', or neither.
+pub fn test_sum(release: u8, frame: &[u8]) -> Sum
     requires { ⌜ 10 ≤ length (now frame) ⌝ }
-    ensures { λ r. ⌜ r ≡ sumPasses release (now (frame .entry)) ⌝ }
+    ensures { λ r. ⌜ r ≡ sumSaid release (now (frame .entry)) ⌝ }
 {
     if is_sum_off(frame) {
-        return true;
+        return Sum::SwitchedOff;
     }
-    is_sum_true(release, frame)
+    if is_sum_true(release, frame) {
+        return Sum::True;
+    }
+    Sum::Wrong
 }
 
 // Test 8, passed: the station is digits and is this one.

@@ -17,8 +17,9 @@ use Rattle.messages.specs.Rows.{firstOf}
 use Rattle.table.specs.Table.{messageOf}
 use Rattle.messages.specs.Asked.{askedRows, askedOf, numberGiven}
 use Rattle.messages.proofs.Judged.{number-judged, refused-some}
+use Rattle.calls.specs.declared.Told.the-variants.{Untested}
 use Rattle.calls.specs.Calls.{Areas, Call, Outcome, lengthsOf, steppedBack}
-use Rattle.refusals.specs.Refusals.{silent, silentOf, refusalOf, backRefusalOf}
+use Rattle.refusals.specs.Refusals.{silent, silentOf, toldOf, refusalOf, backRefusalOf}
 use Rattle.refusals.proofs.Rows.{silent-is, refusal-is, call-passed, past-silent, silent-given}
 use Rattle.link.specs.Answer.{asked, textOf, areasAfter, unanswered, answerOf, backOf}
 
@@ -27,12 +28,12 @@ unfolding silentOf
 silent-first c = refl
 
 -- a refusal without a reply
-pub silent-answer : (c : Call) (k : ℕ) → k ≡ silentOf c → (k ≡ 0 → ⊥) → answerOf c ≡ unanswered k (c .areas)
+pub silent-answer : (c : Call) (k : ℕ) → k ≡ silentOf c → (k ≡ 0 → ⊥) → answerOf c ≡ unanswered (toldOf c) k (c .areas)
 unfolding answerOf
 silent-answer c k e n = rw (← e, ne-eqb k 0 n)
 
 -- what a heard frame asks is answered
-pub heard-answer : (c : Call) → silentOf c ≡ 0 → answerOf c ≡ record { number = numberGiven (asked c); text = textOf c (asked c); areas = areasAfter c (asked c) }
+pub heard-answer : (c : Call) → silentOf c ≡ 0 → answerOf c ≡ record { number = numberGiven (asked c); text = textOf c (asked c); areas = areasAfter c (asked c); sum = toldOf c }
 unfolding answerOf
 heard-answer c e = rw e
 
@@ -94,11 +95,11 @@ accepted c e = go (eqb (silentOf c) 0) refl
     go false q = let z = eqb-false _ _ q in absurd (z (sym (silent-number c z .0) ∙ sym (frame-number c) ∙ e))
 
 -- the step back's outcome
-pub refused-back : (a : Areas) (k : ℕ) → k ≡ backRefusalOf a → (k ≡ 0 → ⊥) → backOf a ≡ unanswered k a
+pub refused-back : (a : Areas) (k : ℕ) → k ≡ backRefusalOf a → (k ≡ 0 → ⊥) → backOf a ≡ unanswered Untested k a
 unfolding backOf
 refused-back a k e n = rw (← e, ne-eqb k 0 n)
 
-pub accepted-back : (a : Areas) → backRefusalOf a ≡ 0 → backOf a ≡ unanswered 0 (steppedBack (heldIn (lengthsOf a)) a)
+pub accepted-back : (a : Areas) → backRefusalOf a ≡ 0 → backOf a ≡ unanswered Untested 0 (steppedBack (heldIn (lengthsOf a)) a)
 unfolding backOf
 accepted-back a e = rw e
 

@@ -27,7 +27,7 @@ pub record Fine (c : Call) : Type 0 where
 
 pub fine : (c : Call) → silentOf c ≡ 0 → Fine c
 fine c e =
-    let p = call-passed c e in
+    let p = call-passed c e .early in
     record {
       reply-long = ltb-false _ _ (p .reply-long);
       points = points-fit (length (c .areas .points)) (p .areas .points);

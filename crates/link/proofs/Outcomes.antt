@@ -23,8 +23,9 @@ use Rattle.messages.specs.declared.Asked.the-variants.{Refused}
 use Rattle.messages.specs.Asked.{numberGiven}
 use Rattle.writes.specs.Writes.{Written}
 use Rattle.calls.specs.declared.Kept.{Kept}
+use Rattle.calls.specs.declared.Told.{Told}
 use Rattle.calls.specs.Calls.{Areas, Call, Outcome, areasOf, areaIn, written}
-use Rattle.refusals.specs.Refusals.{journalFits, silentOf}
+use Rattle.refusals.specs.Refusals.{journalFits, silentOf, toldOf}
 use Rattle.orders.specs.declared.Order.{Order}
 use Rattle.orders.specs.declared.Done.{Done}
 use Rattle.orders.specs.Orders.{rest, writes, newBytes, saidBy}
@@ -33,7 +34,7 @@ use Rattle.orders.proofs.Judging.{writable}
 use Rattle.orders.proofs.Handling.{content, said-same}
 use Rattle.link.specs.declared.Answered.{Answered}
 use Rattle.link.specs.Answer.{held, asked, textOf, areasAfter, unanswered, answerOf}
-use Rattle.link.specs.Contract.{Heard, accepted, Answers}
+use Rattle.link.specs.Contract.{Heard, accepted, Answers, Performs}
 use Rattle.link.proofs.Answering.{silent-answer, heard-answer}
 use Rattle.link.proofs.Carrying.{Fine, fine, ordered}
 
@@ -48,32 +49,34 @@ handingOn a k = areasOf (a .points) (a .columns) (a .integers) (a .flags) (a .jo
 
 -- a result that is the outcome
 answers-by : (c : Call) (o : Outcome) (r : Answered) (areas′ : Areas) (reply′ : List ℕ) → r .kept ≡ areas′ .kept → answerOf c ≡ o → r .number ≡ o .number
-    → r .length ≡ length (o .text) → areas′ ≡ o .areas → reply′ ≡ laid (c .sent .reply) 0 (o .text) → Answers c r areas′ reply′
-answers-by c o r areas′ reply′ k e n l a t =
+    → r .length ≡ length (o .text) → r .sum ≡ o .sum → areas′ ≡ o .areas → reply′ ≡ laid (c .sent .reply) 0 (o .text) → Answers c r areas′ reply′
+answers-by c o r areas′ reply′ k e n l s a t =
     let b = a ∙ sym (ap (λ (x : Outcome). x .areas) e) in
     record {
       number-is = n ∙ sym (ap (λ (x : Outcome). x .number) e);
       length-is = l ∙ sym (ap (λ (x : Outcome). length (x .text)) e);
       kept-is = k ∙ ap (λ (x : Areas). x .kept) b;
+      sum-is = s ∙ sym (ap (λ (x : Outcome). x .sum) e);
       areas-are = b;
       reply-is = t ∙ sym (ap (λ (x : Outcome). laid (c .sent .reply) 0 (x .text)) e);
     }
 
 -- what is asked, answered
-asked-so : (c : Call) (a : Asked) → silentOf c ≡ 0 → asked c ≡ a → answerOf c ≡ record { number = numberGiven a; text = textOf c a; areas = areasAfter c a }
-asked-so c a s e = heard-answer c s ∙ ap (λ (x : Asked). record { number = numberGiven x; text = textOf c x; areas = areasAfter c x }) e
+asked-so : (c : Call) (a : Asked) → silentOf c ≡ 0 → asked c ≡ a → answerOf c ≡ record { number = numberGiven a; text = textOf c a; areas = areasAfter c a; sum = toldOf c }
+asked-so c a s e = heard-answer c s ∙ ap (λ (x : Asked). record { number = numberGiven x; text = textOf c x; areas = areasAfter c x; sum = toldOf c }) e
 
 -- a refusal without a reply
-pub answered-silent : (c : Call) (k : ℕ) → k ≡ silentOf c → (k ≡ 0 → ⊥) → Answers c (record { number = k; length = 0; kept = c .areas .kept }) (c .areas) (c .sent .reply)
-answered-silent c k e n =
-    answers-by c (unanswered k (c .areas)) _ (c .areas) (c .sent .reply) refl (silent-answer c k e n) refl refl refl (sym (laid-nothing (c .sent .reply) 0))
+pub answered-silent : (c : Call) (k : ℕ) (t : Told) → k ≡ silentOf c → t ≡ toldOf c → (k ≡ 0 → ⊥)
+    → Answers c (record { number = k; length = 0; kept = c .areas .kept; sum = t }) (c .areas) (c .sent .reply)
+answered-silent c k t e s n =
+    answers-by c (unanswered (toldOf c) k (c .areas)) _ (c .areas) (c .sent .reply) refl (silent-answer c k e n) refl refl s refl (sym (laid-nothing (c .sent .reply) 0))
 
 -- an error reply
-pub answered-refused : (c : Call) (k : ℕ) (r : Answered) (reply′ : List ℕ) → silentOf c ≡ 0 → asked c ≡ Refused k
-    → (r .number ≡ k) × (r .length ≡ 10) × (r .kept ≡ c .areas .kept) → reply′ ≡ laid (c .sent .reply) 0 (errorOf (c .sent .settings .station) k)
+pub answered-refused : (c : Call) (k : ℕ) (r : Answered) (reply′ : List ℕ) {t : Told} → silentOf c ≡ 0 → asked c ≡ Refused k
+    → t ≡ toldOf c → (r .number ≡ k) × (r .length ≡ 10) × (r .kept ≡ c .areas .kept) × (r .sum ≡ t) → reply′ ≡ laid (c .sent .reply) 0 (errorOf (c .sent .settings .station) k)
     → Answers c r (handingOn (c .areas) (r .kept)) reply′
-answered-refused c k r reply′ s e f g =
-    answers-by c _ r (handingOn (c .areas) (r .kept)) reply′ refl (asked-so c (Refused k) s e) (f .0) (f .1 ∙ sym (length-reply _ _ _))
+answered-refused c k r reply′ s e t f g =
+    answers-by c _ r (handingOn (c .areas) (r .kept)) reply′ refl (asked-so c (Refused k) s e) (f .0) (f .1 ∙ sym (length-reply _ _ _)) (f .3 ∙ t)
     (same-areas refl refl refl refl refl (ap (λ (x : Kept). x .used) (f .2)))
     g
 
@@ -151,16 +154,18 @@ module _ {c : Call} {o : Order} (e : Heard c o) (tag : ℕ) (whole : replacing t
         ∙ written-so (c .areas) (held c) (o .message .tag) (o .start) (o .count) _ area′ journal′ (r .kept) (rw (e .held-is, of-kind z) at (s .wrote f))
     left false f = let q = s .stayed f in (λ i. replacing tag (q .0 i) (c .areas) (q .1 i) (record { used = q .2 i })) ∙ whole
 
-    pub performed : Answers c (accepted r) (replacing tag area′ (c .areas) journal′ (r .kept)) reply′
+    pub performed : Performs c r (replacing tag area′ (c .areas) journal′ (r .kept)) reply′
     performed =
-        answers-by c _ (accepted r) (replacing tag area′ (c .areas) journal′ (r .kept)) reply′ refl
+        answers-by c _ (accepted (toldOf c) r) (replacing tag area′ (c .areas) journal′ (r .kept)) reply′ refl
         (asked-so c (asks.Order (o .message) (o .start) (o .count)) (e .silent-0) (e .order))
         refl
         (p .length-is ∙ ap (λ (x : List ℕ). length (replyOf normal (c .sent .settings .station) x)) said)
+        refl
         (left (writes (o .message .does)) refl)
         (p .bytes ∙ ap (λ (x : List ℕ). laid (c .sent .reply) 0 (replyOf normal (c .sent .settings .station) x)) said)
 
 -- the result that says so
-pub accepted-so : {c : Call} {r : Answered} (done : Done) {p i n f j reply′ : List ℕ} {s : Firsts} → r ≡ accepted done
-    → Answers c (accepted done) (areasOf p i n f j (done .kept) s) reply′ → Answers c r (areasOf p i n f j (r .kept) s) reply′
-accepted-so {c} done {p} {i} {n} {f} {j} {reply′} {s} e a = subst (λ (x : Answered). Answers c x (areasOf p i n f j (x .kept) s) reply′) (sym e) a
+pub accepted-so : {c : Call} {r : Answered} (done : Done) {t : Told} {p i n f j reply′ : List ℕ} {s : Firsts} → r ≡ accepted t done → t ≡ toldOf c
+    → Performs c done (areasOf p i n f j (done .kept) s) reply′ → Answers c r (areasOf p i n f j (r .kept) s) reply′
+accepted-so {c} done {t} {p} {i} {n} {f} {j} {reply′} {s} e g a =
+    subst (λ (x : Answered). Answers c x (areasOf p i n f j (x .kept) s) reply′) (sym (e ∙ ap (λ (x : Told). accepted x done) g)) a

@@ -4,11 +4,12 @@ use mathlib.Core.Path.{_≡_}
 use mathlib.Core.List.{List}
 use lib.ListN.{length}
 use Rattle.digits.specs.Laid.{laid}
+use Rattle.calls.specs.declared.Told.{Told}
 use Rattle.calls.specs.Calls.{Areas, Call}
 use Rattle.link.specs.declared.Answered.{Answered}
 use Rattle.link.specs.declared.Back.{Back}
 use Rattle.messages.specs.declared.Asked.the-variants as asks
-use Rattle.refusals.specs.Refusals.{silentOf}
+use Rattle.refusals.specs.Refusals.{silentOf, toldOf}
 use Rattle.orders.specs.declared.Order.{Order}
 use Rattle.orders.specs.declared.Done.{Done}
 use Rattle.link.specs.Answer.{held, asked, answerOf, backOf}
@@ -20,16 +21,21 @@ pub record Heard (c : Call) (o : Order) : Type 0 where
   pub order : asked c ≡ asks.Order (o .message) (o .start) (o .count)
 
 -- an order that was carried out: "An accepted call has number 0."
-abbrev pub accepted : Done → Answered
-accepted done = record { number = 0; length = done .length; kept = done .kept }
+abbrev pub accepted : Told → Done → Answered
+accepted told done = record { number = 0; length = done .length; kept = done .kept; sum = told }
 
 -- what an answer gives and leaves is the outcome; the reply is laid over the front of the reply area, and what is beyond it stays
 pub record Answers (c : Call) (r : Answered) (areas′ : Areas) (reply′ : List ℕ) : Type 0 where
   pub number-is : r .number ≡ answerOf c .number
   pub length-is : r .length ≡ length (answerOf c .text)
   pub kept-is : r .kept ≡ answerOf c .areas .kept
+  pub sum-is : r .sum ≡ answerOf c .sum
   pub areas-are : areas′ ≡ answerOf c .areas
   pub reply-is : reply′ ≡ laid (c .sent .reply) 0 (answerOf c .text)
+
+-- an order of a call, carried out, is its answer
+abbrev pub Performs : Call → Done → Areas → List ℕ → Type 0
+Performs c done areas′ reply′ = Answers c (accepted (toldOf c) done) areas′ reply′
 
 -- what a step back gives and leaves
 pub record StepsBack (a : Areas) (r : Back) (areas′ : Areas) : Type 0 where

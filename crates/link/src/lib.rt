@@ -1,7 +1,8 @@
-// The link: every frame answered, and the step back (document 01 whole, and document 02, requests a, c and l).
+// The link: every frame answered, and the step back (document 01 whole, and document 02, requests a, c, f and l).
 use axes::Axes;
 use calls::Kept;
 use calls::Settings;
+use calls::Told;
 use frames::replies::error_reply;
 use journal::find_last;
 use journal::remove;
@@ -27,13 +28,14 @@ ghost use Rattle.kinds.specs.Kinds.{Sound, pointsOf, columnsOf, integersOf, fla
 ghost use Rattle.journal.specs.Journal.{puts, entryFor};
 ghost use Rattle.journal.specs.Laws.{Good};
 ghost use Rattle.calls.specs.Calls.{areasOf, callOf};
-ghost use Rattle.link.specs.Contract.{Heard, accepted, Answers, StepsBack};
+ghost use Rattle.link.specs.Contract.{Heard, accepted, Answers, Performs, StepsBack};
 
-// The answer to a frame: its number, the reply's length, what is handed on.
+// The answer to a frame: its number, the reply's length, what is handed on, what is told of the sum.
 pub struct Answered {
     pub number: u16,
     pub length: usize,
     pub kept: Kept,
+    pub sum: Told,
 }
 
 // The answer to a step back.
@@ -43,21 +45,22 @@ pub struct Back {
 }
 
 // What an order that was carried out gives: number 0.
-fn accept(done: Done) -> Answered
-    ensures { λ r. ⌜ r ≡ accepted done ⌝ }
+fn accept(done: Done, sum: Told) -> Answered
+    ensures { λ r. ⌜ r ≡ accepted sum done ⌝ }
 {
     let kept = done.kept;
     Answered {
         number: 0,
         length: done.length,
         kept,
+        sum,
     }
 }
 
 // The ten bytes of an error reply.
-fn refuse(reply: &mut [u8], station: u8, number: u16, kept: Kept) -> Answered
+fn refuse(reply: &mut [u8], station: u8, number: u16, kept: Kept, sum: Told) -> Answered
     requires { ⌜ 10 ≤ length (now reply) ⌝ }
-    ensures { λ r. ⌜ (r .number ≡ number) × (r .length ≡ 10) × (r .kept ≡ kept) ⌝ }
+    ensures { λ r. ⌜ (r .number ≡ number) × (r .length ≡ 10) × (r .kept ≡ kept) × (r .sum ≡ sum) ⌝ }
     ensures { λ _. ⌜ now (reply .exit) ≡ laid (now (reply .entry)) 0 (errorOf station number) ⌝ }
 {
     let length = error_reply(reply, station, number);
@@ -65,6 +68,7 @@ fn refuse(reply: &mut [u8], station: u8, number: u16, kept: Kept) -> Answered
         number,
         length,
         kept,
+        sum,
     }
 }
 
@@ -84,10 +88,10 @@ fn perform(
     reply: &mut [u8],
 ) -> Done
     requires { ⌜ Heard (callOf (now frame) axes settings (now reply) (areasOf (now points) (now columns) (now integers) (now flags) (now journal) kept firsts)) order ⌝ }
-    ensures { λ r. ⌜ Answers
+    ensures { λ r. ⌜ Performs
         (callOf (now (frame .entry)) axes settings (now (reply .entry))
         (areasOf (now (points .entry)) (now (columns .entry)) (now (integers .entry)) (now (flags .entry)) (now (journal .entry)) kept firsts))
-        (accepted r) (areasOf (now (points .exit)) (now (columns .exit)) (now (integers .exit)) (now (flags .exit)) (now (journal .exit)) (r .kept) firsts) (now (reply .exit)) ⌝ }
+        r (areasOf (now (points .exit)) (now (columns .exit)) (now (integers .exit)) (now (flags .exit)) (now (journal .exit)) (r .kept) firsts) (now (reply .exit)) ⌝ }
 {
     let m = order.message;
     let tag = m.tag;
@@ -129,18 +133,21 @@ pub fn answer(
         flags: flags.len(),
         firsts,
     };
-    let number = silent(reply.len(), frame, axes, settings, lengths, journal, kept);
+    let hearing = silent(reply.len(), frame, axes, settings, lengths, journal, kept);
+    let number = hearing.number;
+    let sum = hearing.sum;
     if number != 0 {
         return Answered {
             number,
             length: 0,
             kept,
+            sum,
         };
     }
     let held = held_in(lengths);
     let asked = judge(frame, held, settings.fitted, settings.release);
     match asked {
-        Asked::Refused { number: given } => refuse(reply, settings.station, given, kept),
+        Asked::Refused { number: given } => refuse(reply, settings.station, given, kept, sum),
         Asked::Order {
             message,
             start,
@@ -152,7 +159,7 @@ pub fn answer(
                 count,
                 held,
             };
-            accept(perform(
+            let done = perform(
                 order,
                 frame,
                 points,
@@ -165,7 +172,8 @@ pub fn answer(
                 axes,
                 settings,
                 reply,
-            ))
+            );
+            accept(done, sum)
         }
     }
 }

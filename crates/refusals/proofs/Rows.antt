@@ -1,40 +1,29 @@
 -- The rows that each call tests, as choices over truth values.
 use Prim.Native.Nat.{ℕ, _+_, _≤_, _<_}
-use mathlib.Core.Path.{_≡_, refl, sym, _∙_}
-use mathlib.Core.Bool.{Bool, true, false, cond, not}
+use mathlib.Core.Path.{_≡_, refl, sym, ap₂, _∙_}
+use mathlib.Core.Bool.{Bool, true, false, cond, not, _&&_}
+use mathlib.Core.Logic.{_⊎_, inl, inr}
 use mathlib.Core.List.{List}
 use native.Mathlib.Omega.{arith}
 use lib.Dec.{ltb, eqb}
 use lib.ListN.{length}
 use borrow.Author.Tests.{lt-ltb, le-ltb, eq-eqb, ne-eqb}
 use Rattle.digits.proofs.Bools.{was-not}
-use Rattle.frames.specs.Frame.{contentIn, shaped, sumPasses, stationPasses}
+use Rattle.frames.specs.declared.checks.Sum.{Sum}
+use Rattle.frames.specs.Frame.{contentIn, shaped, sumOff, sumPasses, sumSaid, stationPasses}
+use Rattle.frames.proofs.Three.{isOff, isWrong, which}
 use Rattle.messages.specs.Rows.{firstOf}
 use Rattle.table.specs.Table.{messageOf}
 use Rattle.messages.specs.Asked.{askedRows}
 use Rattle.axes.specs.declared.Axes.{Axes}
 use Rattle.calls.specs.declared.Settings.{Settings}
 use Rattle.calls.specs.declared.Kept.{Kept}
+use Rattle.calls.specs.declared.Told.the-variants.{Untested, Said}
 use Rattle.kinds.specs.declared.Lengths.{Lengths}
 use Rattle.kinds.specs.Kinds.{heldIn}
 use Rattle.calls.specs.Calls.{Call, lengthsOf}
-use Rattle.refusals.specs.Refusals.{pointsFit, variablesFit, journalFits, axesFit, releaseFits, areaRows, frameRows, silentRows, silentOf, refusalOf, backRows}
-
--- three rows, and what comes behind them
-abbrev pub three : ℕ → Bool → Bool → Bool → ℕ → ℕ
-three n p q r k = cond p n (cond q (n + 1) (cond r (n + 2) k))
-
-pub three-given : (n : ℕ) (p q r : Bool) (k : ℕ) → (three n p q r 0 ≡ 0 → ⊥) → three n p q r k ≡ three n p q r 0
-three-given n true q r k h = refl
-three-given n false true r k h = refl
-three-given n false false true k h = refl
-three-given n false false false k h = absurd (h refl)
-
-pub three-passed : (n : ℕ) (p q r : Bool) (k : ℕ) → 1 ≤ n → three n p q r k ≡ 0 → (p ≡ false) × (q ≡ false) × (r ≡ false) × (k ≡ 0)
-three-passed n true q r k h e = absurd (omega arith)
-three-passed n false true r k h e = absurd (omega arith)
-three-passed n false false true k h e = absurd (omega arith)
-three-passed n false false false k h e = (refl, refl, refl, e)
+use Rattle.refusals.proofs.Tested.{shaped-long}
+use Rattle.refusals.specs.Refusals.{pointsFit, variablesFit, journalFits, axesFit, releaseFits, areaRows, earlyRows, frameRows, silentRows, silentOf, early, toldAfter, toldOf, refusalOf, backRows}
 
 -- the areas' four, in the order tested, and what comes behind them
 abbrev pub four : Bool → Bool → Bool → Bool → ℕ → ℕ
@@ -94,83 +83,135 @@ module _ (lengths : Lengths) (journal : List ℕ) (kept : Kept) where
   pub past-areas : AreasPass → (k : ℕ) → areaNumber k ≡ k
   past-areas p k = rw (p .points, p .columns, p .variables, p .journal-fits)
 
-module _ (release station : ℕ) (frame : List ℕ) where
-  abbrev pub frameNumber : ℕ → ℕ
-  frameNumber k = three 6 (not (shaped frame)) (not (sumPasses release frame)) (not (stationPasses release station frame)) k
+-- tests, with what comes behind them: none refuses, and what comes behind is the number; or one does, its number is below 101, and what comes behind is
+-- not looked at
+abbrev Gate : (ℕ → ℕ) → Type 0
+Gate f = ((k : ℕ) → f k ≡ k) ⊎ (((k : ℕ) → f k ≡ f 0) × (1 ≤ f 0) × (f 0 < 101))
 
-  pub frame-rows : firstOf (frameRows release station frame) ≡ frameNumber 0
+gates : {f g : ℕ → ℕ} → Gate f → Gate g → Gate (λ k. f (g k))
+gates {f} {g} (inl p) (inl q) = inl (λ k. p (g k) ∙ q k)
+gates {f} {g} (inl p) (inr q) = inr (λ k. p (g k) ∙ q .0 k ∙ sym (p (g 0)), rw (p (g 0)) (q .1), rw (p (g 0)) (q .2))
+gates {f} {g} (inr p) q = inr (λ k. p .0 (g k) ∙ sym (p .0 (g 0)), rw (p .0 (g 0)) (p .1), rw (p .0 (g 0)) (p .2))
+
+gate-given : {f : ℕ → ℕ} → Gate f → (k : ℕ) → (f 0 ≡ 0 → ⊥) → (f k ≡ f 0) × (f 0 < 101)
+gate-given (inl p) k h = absurd (h (p 0))
+gate-given (inr p) k h = (p .0 k, p .2)
+
+-- what comes behind the areas and before the sum: the axes, the release and the frame's shape
+abbrev pub ownNumber : Axes → Settings → List ℕ → ℕ → ℕ
+ownNumber axes settings frame k =
+    cond (not (axesFit axes (settings .fitted))) 5 (cond (not (releaseFits (settings .release))) 13 (cond (not (shaped frame)) 6 k))
+
+-- '@@' where it is forbidden
+abbrev pub forbidden : Settings → List ℕ → Bool
+forbidden settings frame = sumOff frame && not (settings .unchecked)
+
+-- the sum and the station
+module _ (settings : Settings) (frame : List ℕ) where
+  abbrev pub frameNumber : ℕ → ℕ
+  frameNumber k =
+      cond (forbidden settings frame) 12
+      (cond (not (sumPasses (settings .release) frame)) 7 (cond (not (stationPasses (settings .release) (settings .station) frame)) 8 k))
+
+  pub frame-rows : firstOf (frameRows settings frame) ≡ frameNumber 0
   unfolding frameRows
   frame-rows = refl
 
--- what comes behind the areas: the axes, the release and the frame itself
-abbrev pub ownNumber : Axes → Settings → List ℕ → ℕ → ℕ
-ownNumber axes settings frame k =
-    cond (not (axesFit axes (settings .fitted))) 5
-    (cond (not (releaseFits (settings .release))) 13 (frameNumber (settings .release) (settings .station) frame k))
+  frame-gate : Gate frameNumber
+  frame-gate = go (forbidden settings frame) (not (sumPasses (settings .release) frame)) (not (stationPasses (settings .release) (settings .station) frame))
+    where
+      go : (t u v : Bool) → Gate (λ k. cond t 12 (cond u 7 (cond v 8 k)))
+      go true u v = inr (λ k. refl, omega arith, omega arith)
+      go false true v = inr (λ k. refl, omega arith, omega arith)
+      go false false true = inr (λ k. refl, omega arith, omega arith)
+      go false false false = inl (λ k. refl)
 
 module _ (reply : ℕ) (frame : List ℕ) (axes : Axes) (settings : Settings) (lengths : Lengths) (journal : List ℕ) (kept : Kept) where
+  abbrev pub earlyNumber : ℕ → ℕ
+  earlyNumber k = cond (ltb reply 1024) 1 (areaNumber lengths journal kept (ownNumber axes settings frame k))
+
   abbrev pub silentNumber : ℕ → ℕ
-  silentNumber k = cond (ltb reply 1024) 1 (areaNumber lengths journal kept (ownNumber axes settings frame k))
+  silentNumber k = earlyNumber (frameNumber settings frame k)
+
+  pub early-rows : firstOf (earlyRows reply frame axes settings lengths journal kept) ≡ earlyNumber 0
+  unfolding earlyRows areaRows
+  early-rows = refl
 
   pub silent-rows : firstOf (silentRows reply frame axes settings lengths journal kept) ≡ silentNumber 0
-  unfolding silentRows areaRows frameRows
+  unfolding silentRows earlyRows areaRows frameRows
   silent-rows = refl
 
-  -- no refusal without a reply
-  pub record Passed : Type 0 where
+  -- nothing before the sum refuses
+  pub record EarlyPassed : Type 0 where
     pub reply-long : ltb reply 1024 ≡ false
     pub areas : AreasPass lengths journal kept
     pub axes-fit : axesFit axes (settings .fitted) ≡ true
     pub release-fits : releaseFits (settings .release) ≡ true
     pub shape : shaped frame ≡ true
+
+  pub past-early : EarlyPassed → (k : ℕ) → earlyNumber k ≡ k
+  past-early p k = rw (p .reply-long, past-areas lengths journal kept (p .areas) (ownNumber axes settings frame k), p .axes-fit, p .release-fits, p .shape)
+
+  -- no refusal without a reply
+  pub record Passed : Type 0 where
+    pub early : EarlyPassed
+    pub allowed : forbidden settings frame ≡ false
     pub sum : sumPasses (settings .release) frame ≡ true
     pub station : stationPasses (settings .release) (settings .station) frame ≡ true
 
   pub past-silent : Passed → (k : ℕ) → silentNumber k ≡ k
-  past-silent p k = rw (p .reply-long, past-areas lengths journal kept (p .areas) (ownNumber axes settings frame k), p .axes-fit, p .release-fits, p .shape, p .sum, p .station)
+  past-silent p k = past-early (p .early) (frameNumber settings frame k) ∙ rw (p .allowed, p .sum, p .station)
 
   one-passed : (b : Bool) (n k : ℕ) → 1 ≤ n → cond b n k ≡ 0 → (b ≡ false) × (k ≡ 0)
   one-passed true n k h e = absurd (omega arith)
   one-passed false n k h e = (refl, e)
 
-  pub passed : {k : ℕ} → silentNumber k ≡ 0 → Passed × (k ≡ 0)
-  passed {k} e =
+  pub early-passed : {k : ℕ} → earlyNumber k ≡ 0 → EarlyPassed × (k ≡ 0)
+  early-passed {k} e =
       let a = one-passed (ltb reply 1024) 1 (areaNumber lengths journal kept (ownNumber axes settings frame k)) (omega arith) e in
       let b = areas-pass lengths journal kept (a .1) in
-      let f = frameNumber (settings .release) (settings .station) frame k in
-      let c = one-passed (not (axesFit axes (settings .fitted))) 5 (cond (not (releaseFits (settings .release))) 13 f) (omega arith) (b .1) in
-      let r = one-passed (not (releaseFits (settings .release))) 13 f (omega arith) (c .1) in
-      let d = three-passed 6 (not (shaped frame)) (not (sumPasses (settings .release) frame)) (not (stationPasses (settings .release) (settings .station) frame)) k (omega arith) (r .1) in
-      (record { reply-long = a .0; areas = b .0; axes-fit = was-not (c .0); release-fits = was-not (r .0); shape = was-not (d .0); sum = was-not (d .1); station = was-not (d .2) }, d .3)
+      let s = cond (not (shaped frame)) 6 k in
+      let c = one-passed (not (axesFit axes (settings .fitted))) 5 (cond (not (releaseFits (settings .release))) 13 s) (omega arith) (b .1) in
+      let r = one-passed (not (releaseFits (settings .release))) 13 s (omega arith) (c .1) in
+      let d = one-passed (not (shaped frame)) 6 k (omega arith) (r .1) in
+      (record { reply-long = a .0; areas = b .0; axes-fit = was-not (c .0); release-fits = was-not (r .0); shape = was-not (d .0) }, d .1)
 
-  -- where one is given it is below 101, and what comes behind is not looked at
-  pub silent-given : (k : ℕ) → (silentNumber 0 ≡ 0 → ⊥) → (silentNumber k ≡ silentNumber 0) × (silentNumber 0 < 101)
-  silent-given k h =
+  pub passed : {k : ℕ} → silentNumber k ≡ 0 → Passed × (k ≡ 0)
+  passed {k} e =
+      let p = early-passed e in
+      let wrong = not (sumPasses (settings .release) frame) in
+      let other = not (stationPasses (settings .release) (settings .station) frame) in
+      let a = one-passed (forbidden settings frame) 12 (cond wrong 7 (cond other 8 k)) (omega arith) (p .1) in
+      let b = one-passed wrong 7 (cond other 8 k) (omega arith) (a .1) in
+      let c = one-passed other 8 k (omega arith) (b .1) in
+      (record { early = p .0; allowed = a .0; sum = was-not (b .0); station = was-not (c .0) }, c .1)
+
+  early-gate : Gate earlyNumber
+  early-gate =
       go (ltb reply 1024) (not (pointsFit (lengths .points))) (not (eqb (lengths .columns) 700)) (not (variablesFit (lengths .integers) (lengths .flags) (lengths .firsts)))
       (not (journalFits (heldIn lengths) journal (kept .used)))
       (not (axesFit axes (settings .fitted)))
       (not (releaseFits (settings .release)))
       (not (shaped frame))
-      (not (sumPasses (settings .release) frame))
-      (not (stationPasses (settings .release) (settings .station) frame))
-      h
     where
-      all : (o p q w r s x t u v : Bool) → ℕ → ℕ
-      all o p q w r s x t u v n = cond o 1 (four p q w r (cond s 5 (cond x 13 (three 6 t u v n))))
+      go : (o p q w r s x t : Bool) → Gate (λ k. cond o 1 (four p q w r (cond s 5 (cond x 13 (cond t 6 k)))))
+      go true p q w r s x t = inr (λ k. refl, omega arith, omega arith)
+      go false true q w r s x t = inr (λ k. refl, omega arith, omega arith)
+      go false false true w r s x t = inr (λ k. refl, omega arith, omega arith)
+      go false false false true r s x t = inr (λ k. refl, omega arith, omega arith)
+      go false false false false true s x t = inr (λ k. refl, omega arith, omega arith)
+      go false false false false false true x t = inr (λ k. refl, omega arith, omega arith)
+      go false false false false false false true t = inr (λ k. refl, omega arith, omega arith)
+      go false false false false false false false true = inr (λ k. refl, omega arith, omega arith)
+      go false false false false false false false false = inl (λ k. refl)
 
-      go : (o p q w r s x t u v : Bool) → (all o p q w r s x t u v 0 ≡ 0 → ⊥)
-          → (all o p q w r s x t u v k ≡ all o p q w r s x t u v 0) × (all o p q w r s x t u v 0 < 101)
-      go true p q w r s x t u v n = (refl, omega arith)
-      go false true q w r s x t u v n = (refl, omega arith)
-      go false false true w r s x t u v n = (refl, omega arith)
-      go false false false true r s x t u v n = (refl, omega arith)
-      go false false false false true s x t u v n = (refl, omega arith)
-      go false false false false false true x t u v n = (refl, omega arith)
-      go false false false false false false true t u v n = (refl, omega arith)
-      go false false false false false false false true u v n = (refl, omega arith)
-      go false false false false false false false false true v n = (refl, omega arith)
-      go false false false false false false false false false true n = (refl, omega arith)
-      go false false false false false false false false false false n = absurd (n refl)
+  -- where a test before the sum refuses, that is the number
+  pub early-given : (k : ℕ) → (earlyNumber 0 ≡ 0 → ⊥) → (earlyNumber k ≡ earlyNumber 0) × (earlyNumber 0 < 101)
+  early-given k h = gate-given early-gate k h
+
+  -- and so of all that come without a reply
+  pub silent-given : (k : ℕ) → (silentNumber 0 ≡ 0 → ⊥) → (silentNumber k ≡ silentNumber 0) × (silentNumber 0 < 101)
+  silent-given k h = gate-given (gates early-gate (frame-gate settings frame)) k h
 
 -- a call's rows
 abbrev pub numberOf : Call → ℕ → ℕ
@@ -180,12 +221,12 @@ abbrev pub CallPassed : Call → Type 0
 CallPassed c = Passed (length (c .sent .reply)) (c .sent .frame) (c .sent .axes) (c .sent .settings) (lengthsOf (c .areas)) (c .areas .journal) (c .areas .kept)
 
 pub silent-is : (c : Call) → silentOf c ≡ numberOf c 0
-unfolding silentOf silentRows areaRows frameRows
+unfolding silentOf silentRows earlyRows areaRows frameRows
 silent-is c = refl
 
 pub refusal-is : (c : Call)
     → refusalOf c ≡ numberOf c (firstOf (askedRows (heldIn (lengthsOf (c .areas))) (c .sent .settings .fitted) (c .sent .settings .release) (messageOf (c .sent .settings .release) (c .sent .frame)) (contentIn (c .sent .frame))))
-unfolding refusalOf silentRows areaRows frameRows
+unfolding refusalOf silentRows earlyRows areaRows frameRows
 refusal-is c = refl
 
 pub call-passed : (c : Call) → silentOf c ≡ 0 → CallPassed c
@@ -229,40 +270,78 @@ module _ (l : Lengths) (j : List ℕ) (kept : Kept) where
 
   -- each return of a frame's tests
   module _ (reply : ℕ) (frame : List ℕ) (axes : Axes) (settings : Settings) where
-    pub silent-1 : reply < 1024 → 1 ≡ firstOf (silentRows reply frame axes settings l j kept)
-    silent-1 h = sym (silent-rows reply frame axes settings l j kept ∙ rw (lt-ltb _ _ h))
+    pub early-1 : reply < 1024 → 1 ≡ firstOf (earlyRows reply frame axes settings l j kept)
+    early-1 h = sym (early-rows reply frame axes settings l j kept ∙ rw (lt-ltb _ _ h))
 
     module _ (h : 1024 ≤ reply) where
-      behind : (k : ℕ) → areaNumber l j kept (ownNumber axes settings frame 0) ≡ k → k ≡ firstOf (silentRows reply frame axes settings l j kept)
-      behind k e = sym (silent-rows reply frame axes settings l j kept ∙ rw (le-ltb _ _ h) e)
+      behind : (k : ℕ) → areaNumber l j kept (ownNumber axes settings frame 0) ≡ k → k ≡ firstOf (earlyRows reply frame axes settings l j kept)
+      behind k e = sym (early-rows reply frame axes settings l j kept ∙ rw (le-ltb _ _ h) e)
 
-      pub silent-area : {n : ℕ} → n ≡ firstOf (areaRows l j kept) → (n ≡ 0 → ⊥) → n ≡ firstOf (silentRows reply frame axes settings l j kept)
-      silent-area {n} e f = behind n (sym (e ∙ area-given l j kept _ (λ z. f (e ∙ z))))
+      pub early-area : {n : ℕ} → n ≡ firstOf (areaRows l j kept) → (n ≡ 0 → ⊥) → n ≡ firstOf (earlyRows reply frame axes settings l j kept)
+      early-area {n} e f = behind n (sym (e ∙ area-given l j kept _ (λ z. f (e ∙ z))))
 
       module _ (e : firstOf (areaRows l j kept) ≡ 0) where
-        pub silent-5 : axesFit axes (settings .fitted) ≡ false → 5 ≡ firstOf (silentRows reply frame axes settings l j kept)
-        silent-5 f = behind 5 (area-past e _ ∙ rw f)
+        pub early-5 : axesFit axes (settings .fitted) ≡ false → 5 ≡ firstOf (earlyRows reply frame axes settings l j kept)
+        early-5 f = behind 5 (area-past e _ ∙ rw f)
 
         module _ (f : axesFit axes (settings .fitted) ≡ true) where
-          pub silent-13 : releaseFits (settings .release) ≡ false → 13 ≡ firstOf (silentRows reply frame axes settings l j kept)
-          silent-13 r = behind 13 (area-past e _ ∙ rw (f, r))
+          pub early-13 : releaseFits (settings .release) ≡ false → 13 ≡ firstOf (earlyRows reply frame axes settings l j kept)
+          early-13 r = behind 13 (area-past e _ ∙ rw (f, r))
 
-          pub silent-frame : releaseFits (settings .release) ≡ true → {n : ℕ} → n ≡ firstOf (frameRows (settings .release) (settings .station) frame)
-              → n ≡ firstOf (silentRows reply frame axes settings l j kept)
-          silent-frame r {n} g = behind n (area-past e _ ∙ rw (f, r) (sym (g ∙ frame-rows (settings .release) (settings .station) frame)))
+          module _ (r : releaseFits (settings .release) ≡ true) where
+            pub early-6 : shaped frame ≡ false → 6 ≡ firstOf (earlyRows reply frame axes settings l j kept)
+            early-6 s = behind 6 (area-past e _ ∙ rw (f, r, s))
 
--- each return of the frame's own tests
-module _ (release station : ℕ) (frame : List ℕ) where
-  pub frame-6 : shaped frame ≡ false → 6 ≡ firstOf (frameRows release station frame)
-  frame-6 e = sym (frame-rows release station frame ∙ rw e)
+            pub early-0 : shaped frame ≡ true → 0 ≡ firstOf (earlyRows reply frame axes settings l j kept)
+            early-0 s = behind 0 (area-past e _ ∙ rw (f, r, s))
 
-  module _ (e : shaped frame ≡ true) where
-    pub frame-7 : sumPasses release frame ≡ false → 7 ≡ firstOf (frameRows release station frame)
-    frame-7 f = sym (frame-rows release station frame ∙ rw (e, f))
+    -- behind them stand the sum and the station
+    pub silent-early : {n : ℕ} → n ≡ firstOf (earlyRows reply frame axes settings l j kept) → (n ≡ 0 → ⊥)
+        → n ≡ firstOf (silentRows reply frame axes settings l j kept)
+    silent-early e f =
+        e
+        ∙ early-rows reply frame axes settings l j kept
+        ∙ sym (silent-rows reply frame axes settings l j kept ∙ early-given reply frame axes settings l j kept _ (λ z. f (e ∙ early-rows reply frame axes settings l j kept ∙ z)) .0)
 
-    module _ (f : sumPasses release frame ≡ true) where
-      pub frame-8 : stationPasses release station frame ≡ false → 8 ≡ firstOf (frameRows release station frame)
-      frame-8 g = sym (frame-rows release station frame ∙ rw (e, f, g))
+    module _ (e : firstOf (earlyRows reply frame axes settings l j kept) ≡ 0) where
+      none-early : EarlyPassed reply frame axes settings l j kept
+      none-early = early-passed reply frame axes settings l j kept (sym (early-rows reply frame axes settings l j kept) ∙ e) .0
 
-      pub frame-0 : stationPasses release station frame ≡ true → 0 ≡ firstOf (frameRows release station frame)
-      frame-0 g = sym (frame-rows release station frame ∙ rw (e, f, g))
+      pub silent-long : 10 ≤ length frame
+      silent-long = shaped-long frame (none-early .shape)
+
+      pub silent-frame : {n : ℕ} → n ≡ firstOf (frameRows settings frame) → n ≡ firstOf (silentRows reply frame axes settings l j kept)
+      silent-frame g =
+          g ∙ frame-rows settings frame ∙ sym (silent-rows reply frame axes settings l j kept ∙ past-early reply frame axes settings l j kept none-early _)
+
+-- the tests of the sum and the station, by what the sum test said
+module _ (settings : Settings) (frame : List ℕ) where
+  pub frame-by : (s : Sum) → s ≡ sumSaid (settings .release) frame
+      → firstOf (frameRows settings frame)
+      ≡ cond (isOff s && not (settings .unchecked)) 12 (cond (isWrong s) 7 (cond (not (stationPasses (settings .release) (settings .station) frame)) 8 0))
+  frame-by s e = let w = which (settings .release) frame in frame-rows settings frame ∙ rw (w .0, w .1, ← e)
+
+-- what is told, by the refusal before the sum
+pub told-untested : {n : ℕ} (release : ℕ) (frame : List ℕ) → (n ≡ 0 → ⊥) → toldAfter n release frame ≡ Untested
+unfolding toldAfter
+told-untested {n} release frame h = rw (ne-eqb n 0 h)
+
+pub told-said : {n : ℕ} (release : ℕ) (frame : List ℕ) → n ≡ 0 → toldAfter n release frame ≡ Said (sumSaid release frame)
+unfolding toldAfter
+told-said {n} release frame h = rw (eq-eqb n 0 h)
+
+-- of a heard call the sum was tested
+pub early-0-of : (c : Call) → silentOf c ≡ 0 → firstOf (early c) ≡ 0
+early-0-of c e =
+    early-rows (length (c .sent .reply)) (c .sent .frame) (c .sent .axes) (c .sent .settings) (lengthsOf (c .areas)) (c .areas .journal) (c .areas .kept)
+    ∙ past-early (length (c .sent .reply)) (c .sent .frame) (c .sent .axes) (c .sent .settings) (lengthsOf (c .areas)) (c .areas .journal) (c .areas .kept)
+    (call-passed c e .early)
+    0
+
+pub heard-told : (c : Call) → silentOf c ≡ 0 → toldOf c ≡ Said (sumSaid (c .sent .settings .release) (c .sent .frame))
+heard-told c e = told-said (c .sent .settings .release) (c .sent .frame) (early-0-of c e)
+
+-- and it is told alike of frames that the tests before it and the sum test find alike
+pub same-told-after : {n n′ : ℕ} (release : ℕ) (f f′ : List ℕ) → n ≡ n′ → sumSaid release f ≡ sumSaid release f′ → toldAfter n release f ≡ toldAfter n′ release f′
+unfolding toldAfter
+same-told-after release f f′ e s = ap₂ (λ (k : ℕ) (w : Sum). cond (eqb k 0) (Said w) Untested) e s

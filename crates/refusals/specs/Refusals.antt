@@ -1,11 +1,11 @@
--- Document 01, "Refusal numbers, in the order tested", and document 02, requests a, c and l: 1 to 10 and 13 here, 101 to 108 by `askedRows` of messages. Nothing else
--- decides a number.
+-- Document 01, "Refusal numbers, in the order tested", and document 02, requests a, c, f and l: 1 to 10, 12 and 13 here, 101 to 108 by `askedRows` of messages.
+-- Nothing else decides a number.
 use Prim.Native.Nat.{ℕ, _+_, _*_, _%_}
-use mathlib.Core.Bool.{Bool, true, not, _&&_, _||_}
+use mathlib.Core.Bool.{Bool, true, cond, not, _&&_, _||_}
 use mathlib.Core.List.{List, [], _∷_, _++_}
 use lib.Dec.{ltb, leb, eqb}
 use lib.ListN.{length, take}
-use Rattle.frames.specs.Frame.{contentIn, shaped, sumPasses, stationPasses}
+use Rattle.frames.specs.Frame.{contentIn, shaped, sumOff, sumPasses, sumSaid, stationPasses}
 use Rattle.kinds.specs.declared.Held.{Held}
 use Rattle.kinds.specs.Kinds.{heldIn}
 use Rattle.journal.specs.Journal.{whole}
@@ -16,6 +16,8 @@ use Rattle.table.specs.Table.{messageOf}
 use Rattle.messages.specs.Asked.{askedRows}
 use Rattle.calls.specs.declared.Settings.{Settings}
 use Rattle.calls.specs.declared.Kept.{Kept}
+use Rattle.calls.specs.declared.Told.{Told}
+use Rattle.calls.specs.declared.Told.the-variants.{Untested, Said}
 use Rattle.kinds.specs.declared.Lengths.{Lengths}
 use Rattle.kinds.specs.declared.Firsts.{Firsts}
 use Rattle.calls.specs.Calls.{Areas, Call, lengthsOf}
@@ -61,22 +63,32 @@ areaRows lengths journal kept =
     ∷ (4 when (not (journalFits (heldIn lengths) journal (kept .used))))
     ∷ []
 
--- 6, 7 and 8: the frame itself; "6 also covers a 200H frame of another length" (02, c)
-unfoldable pub frameRows : ℕ → ℕ → List ℕ → List Row
-frameRows release station frame =
-    (6 when (not (shaped frame)))
-    ∷ (7 when (not (sumPasses release frame)))
-    ∷ (8 when (not (stationPasses release station frame)))
-    ∷ []
-
--- 1 to 8, 10 and 13 ("tested after 5", 02, l): a frame's refusals without a reply, with a reply area of so many bytes
-unfoldable pub silentRows : ℕ → List ℕ → Axes → Settings → Lengths → List ℕ → Kept → List Row
-silentRows reply frame axes settings lengths journal kept =
+-- 1 to 6, 10 and 13 ("tested after 5", 02, l): what is tested before the sum, with a reply area of so many bytes; "6 also covers a 200H frame of another
+-- length" (02, c)
+unfoldable pub earlyRows : ℕ → List ℕ → Axes → Settings → Lengths → List ℕ → Kept → List Row
+earlyRows reply frame axes settings lengths journal kept =
     (1 when (ltb reply 1024))
     ∷ (areaRows lengths journal kept
     ++ ((5 when (not (axesFit axes (settings .fitted))))
     ∷ (13 when (not (releaseFits (settings .release))))
-    ∷ frameRows (settings .release) (settings .station) frame))
+    ∷ (6 when (not (shaped frame)))
+    ∷ []))
+
+-- 12 ("for '@@' where forbidden, in 7's place in the order", 02, f), 7 and 8: the sum and the station
+unfoldable pub frameRows : Settings → List ℕ → List Row
+frameRows settings frame =
+    (12 when (sumOff frame && not (settings .unchecked)))
+    ∷ (7 when (not (sumPasses (settings .release) frame)))
+    ∷ (8 when (not (stationPasses (settings .release) (settings .station) frame)))
+    ∷ []
+
+-- a frame's refusals without a reply
+unfoldable pub silentRows : ℕ → List ℕ → Axes → Settings → Lengths → List ℕ → Kept → List Row
+silentRows reply frame axes settings lengths journal kept = earlyRows reply frame axes settings lengths journal kept ++ frameRows settings frame
+
+abbrev pub early : Call → List Row
+early c =
+    earlyRows (length (c .sent .reply)) (c .sent .frame) (c .sent .axes) (c .sent .settings) (lengthsOf (c .areas)) (c .areas .journal) (c .areas .kept)
 
 abbrev pub silent : Call → List Row
 silent c =
@@ -85,7 +97,14 @@ silent c =
 unfoldable pub silentOf : Call → ℕ
 silentOf c = firstOf (silent c)
 
--- a frame's refusal: 1 to 8, 10 and 13, then 101 to 108
+-- "The answer to a frame says which it was, also where a later refusal follows, or that an earlier one left it untested." (02, f)
+unfoldable pub toldAfter : ℕ → ℕ → List ℕ → Told
+toldAfter earlier release frame = cond (eqb earlier 0) (Said (sumSaid release frame)) Untested
+
+abbrev pub toldOf : Call → Told
+toldOf c = toldAfter (firstOf (early c)) (c .sent .settings .release) (c .sent .frame)
+
+-- a frame's refusal: 1 to 8, 10, 12 and 13, then 101 to 108
 unfoldable pub refusalOf : Call → ℕ
 refusalOf c =
     firstOf

@@ -1,11 +1,13 @@
-// The tests behind the refusals without a reply, and the step back's (document 01, "Refusal numbers, in the order tested"; document 02, a: 10; l: 13).
+// The tests behind the refusals without a reply, and the step back's (document 01, "Refusal numbers, in the order tested"; document 02, a: 10; f: 12; l: 13).
 use axes::Axes;
 use axes::AxisRecord;
 use calls::Kept;
 use calls::Settings;
+use calls::Told;
+use frames::checks::Sum;
 use frames::checks::is_ours;
 use frames::checks::is_shaped;
-use frames::checks::passes_sum;
+use frames::checks::test_sum;
 use journal::is_whole;
 use kinds::Firsts;
 use kinds::Held;
@@ -13,9 +15,18 @@ use kinds::Lengths;
 use kinds::held_in;
 use points::point::Point;
 ghost use mathlib.Core.Path.{_≡_};
+ghost use Prim.Native.Nat.{_≤_};
+ghost use lib.ListN.{length};
+ghost use Rattle.frames.specs.Frame.{sumSaid};
 ghost use Rattle.kinds.specs.Kinds.{Sound};
 ghost use Rattle.messages.specs.Rows.{firstOf};
-ghost use Rattle.refusals.specs.Refusals.{pointsFit, variablesFit, journalFits, recordsFit, axesFit, releaseFits, areaRows, frameRows, silentRows, backRows};
+ghost use Rattle.refusals.specs.Refusals.{pointsFit, variablesFit, journalFits, recordsFit, axesFit, releaseFits, areaRows, earlyRows, frameRows, silentRows, toldAfter, backRows};
+
+// What a frame's tests before its message say: the refusal without a reply, or 0, and what is told of the sum.
+pub struct Hearing {
+    pub number: u16,
+    pub sum: Told,
+}
 
 // Refusal 2, passed: a multiple of 40 from 40 to 60,000.
 fn fits_points(points: usize) -> bool
@@ -122,24 +133,30 @@ fn fits_release(release: u8) -> bool
     release == 1 || release == 2
 }
 
-// Tests 6, 7 and 8: the refusal, or 0.
-fn frame_refusal(release: u8, station: u8, frame: &[u8]) -> u16
-    ensures { λ r. ⌜ r ≡ firstOf (frameRows release station (now (frame .entry))) ⌝ }
+// Tests 12, 7 and 8, by what the sum test said: the refusal, or 0.
+fn frame_refusal(sum: Sum, settings: Settings, frame: &[u8]) -> u16
+    requires { ⌜ (10 ≤ length (now frame)) × (sum ≡ sumSaid (settings .release) (now frame)) ⌝ }
+    ensures { λ r. ⌜ r ≡ firstOf (frameRows settings (now (frame .entry))) ⌝ }
 {
-    if !is_shaped(frame) {
-        return 6;
+    match sum {
+        Sum::True => {}
+        Sum::SwitchedOff => {
+            if !settings.unchecked {
+                return 12;
+            }
+        }
+        Sum::Wrong => {
+            return 7;
+        }
     }
-    if !passes_sum(release, frame) {
-        return 7;
-    }
-    if !is_ours(release, station, frame) {
+    if !is_ours(settings.release, settings.station, frame) {
         return 8;
     }
     0
 }
 
-// The refusal without a reply, 1 to 8, 10 or 13, or 0, with a reply area of so many bytes.
-pub fn silent(
+// Tests 1 to 6, 10 and 13: the refusal, or 0, with a reply area of so many bytes.
+fn early_refusal(
     reply: usize,
     frame: &[u8],
     axes: Axes,
@@ -148,7 +165,7 @@ pub fn silent(
     journal: &[u8],
     kept: Kept,
 ) -> u16
-    ensures { λ r. ⌜ r ≡ firstOf (silentRows reply (now (frame .entry)) axes settings lengths (now (journal .entry)) kept) ⌝ }
+    ensures { λ r. ⌜ r ≡ firstOf (earlyRows reply (now (frame .entry)) axes settings lengths (now (journal .entry)) kept) ⌝ }
 {
     if reply < 1024 {
         return 1;
@@ -163,7 +180,38 @@ pub fn silent(
     if !fits_release(settings.release) {
         return 13;
     }
-    frame_refusal(settings.release, settings.station, frame)
+    if !is_shaped(frame) {
+        return 6;
+    }
+    0
+}
+
+// The refusal without a reply, 1 to 8, 10, 12 or 13, or 0, and what is told of the sum.
+pub fn silent(
+    reply: usize,
+    frame: &[u8],
+    axes: Axes,
+    settings: Settings,
+    lengths: Lengths,
+    journal: &[u8],
+    kept: Kept,
+) -> Hearing
+    ensures { λ r. ⌜ r .number ≡ firstOf (silentRows reply (now (frame .entry)) axes settings lengths (now (journal .entry)) kept) ⌝ }
+    ensures { λ r. ⌜ r .sum
+        ≡ toldAfter (firstOf (earlyRows reply (now (frame .entry)) axes settings lengths (now (journal .entry)) kept)) (settings .release) (now (frame .entry)) ⌝ }
+{
+    let number = early_refusal(reply, frame, axes, settings, lengths, journal, kept);
+    if number != 0 {
+        return Hearing {
+            number,
+            sum: Told::Untested,
+        };
+    }
+    let sum = test_sum(settings.release, frame);
+    Hearing {
+        number: frame_refusal(sum, settings, frame),
+        sum: Told::Said(sum),
+    }
 }
 
 // The step back's refusal: 2, 3, 10, 4, then 9, or 0.

@@ -1,8 +1,8 @@
 -- The examples of releases, by computing.
 use Prim.Native.Nat.{ℕ}
 use mathlib.Core.Path.{_≡_, refl, ap, subst, sym}
-use mathlib.Core.Logic.{_⊎_, inl, ⊎-elim}
-use mathlib.Core.Bool.{false}
+use mathlib.Core.Logic.{_⊎_, ⊎-elim}
+use mathlib.Core.Bool.{true, true≢false}
 use mathlib.Core.List.{List}
 use native.Mathlib.Omega.{arith}
 use lib.ListN.{getD}
@@ -21,19 +21,20 @@ both : (P : ℕ → Type 0) → P 1 → P 2 → (release : ℕ) → (release ≡
 both P p q release = ⊎-elim (λ e. subst P (sym e) p) (λ e. subst P (sym e) q)
 
 -- a 24EH is no 200H, and a 200H is
-of-24E : EitherSize (host 2) (text "9a") (text "24e0012c024a4C") (text "1a") (text "24E0012C024A4C")
+of-24E : EitherSize (host 2) true (text "9a") (text "24e0012c024a4C") (text "1a") (text "24E0012C024A4C")
 unfolding a-call
 of-24E =
     record {
       station-is = refl;
-      sc-is = inl refl;
+      sc-true = λ _. refl;
+      sc-off = λ e. absurd (true≢false e);
       test-call = λ e. absurd (let f : _≡_ {A = ℕ} 0x34 0x30 = ap (λ (t : List ℕ). getD t 1 0) e in omega (arith, f));
       other = λ _. refl;
     }
 
-of-200 : EitherSize (host 2) (text "9a") (text "200abcdefABCD") (text "aC") (text "200abcdefABCD")
+of-200 : EitherSize (host 2) true (text "9a") (text "200abcdefABCD") (text "aC") (text "200abcdefABCD")
 unfolding a-call
-of-200 = record { station-is = refl; sc-is = inl refl; test-call = λ _. refl; other = λ n. absurd (n refl) }
+of-200 = record { station-is = refl; sc-true = λ _. refl; sc-off = λ e. absurd (true≢false e); test-call = λ _. refl; other = λ n. absurd (n refl) }
 
 pub release-examples : ReleaseExamples
 unfolding a-call
@@ -62,8 +63,8 @@ release-examples =
 
 -- what the statement says of the 24EH in small letters
 said : (board : Conduct) → Either board
-    → board .answer (handed blank (host 2) (frameWith (text "9a") (text "24e0012c024a4C") (text "1a"))) ≡ board .answer (asking blank (host 2) false (text "24E0012C024A4C"))
-said board e = e blank (host 2) refl (text "9a") (text "24e0012c024a4C") (text "1a") (text "24E0012C024A4C") of-24E
+    → board .answer (handed blank (host 2) (frameWith (text "9a") (text "24e0012c024a4C") (text "1a"))) ≡ board .answer (asking blank (host 2) true (text "24E0012C024A4C"))
+said board e = e blank (host 2) refl true (text "9a") (text "24e0012c024a4C") (text "1a") (text "24E0012C024A4C") of-24E
 
 pub releases-broken : ReleasesBroken
 unfolding a-call
@@ -77,7 +78,7 @@ releases-broken =
       sum-of-capitals = λ e. let f : _≡_ {A = ℕ} 7 0 = ap (λ (o : Outcome). o .number) (said sumOfCapitals e) in omega (arith, f);
       ten-in-capitals = λ e.
           let f : _≡_ {A = ℕ} 0x41 0x61 =
-          ap (λ (o : Outcome). getD (o .text) 6 0) (e blank (host 2) refl (text "9a") (text "200abcdefABCD") (text "aC") (text "200abcdefABCD") of-200) in
+          ap (λ (o : Outcome). getD (o .text) 6 0) (e blank (host 2) refl true (text "9a") (text "200abcdefABCD") (text "aC") (text "200abcdefABCD") of-200) in
           omega (arith, f);
       small-always = λ e.
           let f : _≡_ {A = ℕ} 0x41 0x61 =

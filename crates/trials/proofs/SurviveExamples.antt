@@ -37,7 +37,7 @@ many = record { message = writing; named = refl; known = many-known; number = ma
 
 many-listed : take 9 (replied (answerOf manyCall .areas) (text "!9920900102D@@\r\n")) ≡ text "#99209028"
 unfolding worthOf byteOf capital replyOf sent fitting lengthOf axesFrom axesOf
-many-listed = ap (take 9) (every-digit-survives .next 0x244 manyCall many .points refl .listed refl .text (codeCall .sent) host false)
+many-listed = ap (take 9) (every-digit-survives .next 0x244 manyCall many .points refl .listed refl .text (codeCall .sent) host false refl)
 
 last-read : replied (answerOf manyCall .areas) (text "!9920902D001@@\r\n") ≡ replyOf normal 0x99 (text "20900102D010000000000000000002D")
 unfolding a-call

@@ -44,7 +44,7 @@ longer = text "!99200123456789AB@@\r\n"
 -- what the statement says of line ends with '@@', alone
 said-back : (find : List ℕ → Found) (board : Conduct) → EveryTestCall find board → SaidBack find board blank host (testCall host false lineEnds) lineEnds 0 (testCall host false lineEnds ++ [])
 said-back find board e =
-    e blank (test-call-examples .areas-pass) host (test-call-examples .heard) false lineEnds [] [] refl refl
+    e blank (test-call-examples .areas-pass) host (test-call-examples .heard) false refl lineEnds [] [] refl refl
 
 -- the head of a test call, with bytes behind it
 headed : (behind : List ℕ) → Head (text "!99200" ++ behind)

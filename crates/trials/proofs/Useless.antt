@@ -177,7 +177,7 @@ left-used c a w =
 same-outcome : (board : Board) → Meets board → (c : Call) → outcomeBy board c ≡ answerOf c
 same-outcome board m c =
     let areas : outcomeBy board c .areas ≡ answerOf c .areas = λ i. handingOn (m c .kept-is i) (m c .areas-are i) in
-    λ i. record { number = m c .number-is i; text = replied board m c i; areas = areas i }
+    λ i. record { number = m c .number-is i; text = replied board m c i; areas = areas i; sum = m c .sum-is i }
 
 tells-true : (board : Board) (m : Meets board) (i : InventsCount (outcomeBy board))
     → outcomeBy board (asking (outcomeBy board (i .call) .areas) (i .host) (i .checked) (text "208")) .text
@@ -188,12 +188,12 @@ tells-true board m i =
     ap (λ (o : Outcome). o .text) (same-outcome board m (asking (outcomeBy board (i .call) .areas) h b (text "208")))
     ∙ subst (λ (a : Areas). answerOf (asking a h b (text "208")) .text ≡ replyOf normal (h .settings .station) (text "208" ++ digitsOf 3 (effectiveOf a)))
     (ap (λ (o : Outcome). o .areas) (sym (same-outcome board m (i .call))))
-    (every-digit-survives .tells (i .id) (i .call) (i .accepted) .counted .text h (i .heard) b)
+    (every-digit-survives .tells (i .id) (i .call) (i .accepted) .counted .text h (i .heard) b (i .lets))
 
 pub useless : Useless
 useless =
     record {
-      can-be-met = λ c. record { number-is = refl; length-is = refl; kept-is = refl; areas-are = refl; reply-is = refl };
+      can-be-met = λ c. record { number-is = refl; length-is = refl; kept-is = refl; sum-is = refl; areas-are = refl; reply-is = refl };
       refuses-all = λ board n m. n test (m test .number-is ∙ told .test-number);
       same-reply = λ board same m.
           let e =
@@ -237,7 +237,7 @@ module _ (board : Conduct) (d : EveryDigitSurvives board) where
   counting-after c = asking (board .answer c .areas) (test .sent) false (text "208")
 
   heard : {id : ℕ} (c : Call) → Accepted id c → board .answer (counting-after c) .number ≡ 0
-  heard {id} c a = d .tells id c a .counted .number (test .sent) is-host false
+  heard {id} c a = d .tells id c a .counted .number (test .sent) is-host false refl
 
   -- so its reply is not the same
   differs : board .answer (counting-after one-point) .text ≡ board .answer (counting-after no-point) .text → ⊥
@@ -245,8 +245,8 @@ module _ (board : Conduct) (d : EveryDigitSurvives board) where
   differs e =
       let s : (n : ℕ) → List ℕ = λ n. replyOf normal 0x99 (text "208" ++ digitsOf 3 n) in
       let f =
-      ap s (sym one-counted) ∙ sym (d .tells 0x244 one-point is-one .counted .text (test .sent) is-host false) ∙ e
-      ∙ d .tells 0x246 no-point is-none .counted .text (test .sent) is-host false
+      ap s (sym one-counted) ∙ sym (d .tells 0x244 one-point is-one .counted .text (test .sent) is-host false refl) ∙ e
+      ∙ d .tells 0x246 no-point is-none .counted .text (test .sent) is-host false refl
       ∙ ap s none-counted in
       let g : _≡_ {A = ℕ} 0x31 0x30 = ap (λ (t : List ℕ). getD t 8 0) f in
       omega (arith, g)
@@ -279,7 +279,7 @@ module _ (board : Conduct) (d : EveryDigitSurvives board) where
 
   said-there : board .answer (asking changed (test .sent) false (asksRun (text "20E") 201 1)) .text
       ≡ replyOf normal 0x99 (asksRun (text "20E") 201 1 ++ digitsIn (runOf (kindIn integersTag changed) 201 1 (changed .integers)))
-  said-there = d .tells 0x24C two-integers is-integers .integers 201 1 (omega arith) (omega arith) second-held .text (test .sent) is-host false
+  said-there = d .tells 0x24C two-integers is-integers .integers 201 1 (omega arith) (omega arith) second-held .text (test .sent) is-host false refl
 
   said-sent : board .answer (asking changed (test .sent) false (asksRun (text "20E") 201 1)) .text
       ≡ replyOf normal 0x99 (asksRun (text "20E") 201 1 ++ text "00000002")
@@ -291,7 +291,7 @@ module _ (board : Conduct) (d : EveryDigitSurvives board) where
       r .in-place 201 1 (omega (arith, v .0)) (omega (arith, v .0, v .1)) (omega arith) (omega arith) refl
       ∙ ap₂ (λ (x : ℕ) (y : List ℕ). digitsFrom 4 x 201 1 (capitals y)) (v .0) (v .2) in
       let f : r .digits ≡ text "00000002" = sym (take-all 8 (r .digits) (omega (arith, r .as-many))) ∙ e in
-      r .says .text (test .sent) is-host false ∙ ap (λ (x : List ℕ). replyOf normal 0x99 (asksRun (text "20E") 201 1 ++ x)) f
+      r .says .text (test .sent) is-host false refl ∙ ap (λ (x : List ℕ). replyOf normal 0x99 (asksRun (text "20E") 201 1 ++ x)) f
 
   second-differs : runOf (kindIn integersTag changed) 201 1 (changed .integers) ≡ replicate 4 0 → ⊥
   unfolding byteOf replyOf
@@ -318,7 +318,7 @@ shut-out =
       stores-first-integer = λ board n d.
           second-differs board d
           (ap (λ (f : Firsts). runOf (kindOf (record { points = 2; firsts = f }) integersTag) 201 1 (changed board d .integers)) (same-firsts board d) ∙ n two-integers is-integers ∙ told .integer-before);
-      invents-count = λ board i d. i .other (d .tells (i .id) (i .call) (i .accepted) .counted .text (i .host) (i .heard) (i .checked));
+      invents-count = λ board i d. i .other (d .tells (i .id) (i .call) (i .accepted) .counted .text (i .host) (i .heard) (i .checked) (i .lets));
     }
 
 -- what an accepted write leaves where its first thing alone is stored: what it names behind that stays
@@ -395,6 +395,7 @@ invents answer said same e n =
       host = test .sent;
       heard = is-host;
       checked = false;
+      lets = refl;
       other = λ f. n (sym e ∙ f ∙ ap (λ (a : Areas). replyOf normal 0x99 (text "208" ++ digitsOf 3 (effectiveOf a))) same ∙ told .one-said);
     }
 
@@ -413,7 +414,7 @@ made =
       refuses-all = λ c e. let f : _≡_ {A = ℕ} 8 0 = e in omega (arith, f);
       given-so = λ answer c.
           let t : outcomeBy (given answer) c .text ≡ answer c .text = take-laid (c .sent .reply) (answer c .text) _ refl in
-          λ i. record { number = answer c .number; text = t i; areas = answer c .areas };
+          λ i. record { number = answer c .number; text = t i; areas = answer c .areas; sum = answer c .sum };
       same-reply = λ c d p q. said-same c p ∙ sym (said-same d q);
       stores-nothing = λ c. refl;
       stores-first = stays 0x244 writing (rows .0) refl;

@@ -9,6 +9,7 @@ use lib.ListN.{length, take, getD, replicate}
 use Rattle.digits.specs.Text.{text}
 use Rattle.kinds.specs.Kinds.{pointsTag, columnsTag, heldIn}
 use Rattle.journal.specs.Journal.{added, entryFor}
+use Rattle.calls.specs.declared.Told.the-variants.{Untested}
 use Rattle.calls.specs.Calls.{Areas, Sent, Call, Outcome, fresh, lengthsOf, putIn, oldEntry, withEntries}
 use Rattle.messages.specs.declared.Asked.{Asked}
 use Rattle.messages.specs.declared.Asked.the-variants.{Refused, Order}
@@ -88,7 +89,7 @@ entersNew = record { answer = λ c. answerOf (callOn (withEntries (entries (c .a
 
 -- a step back that also clears the columns
 abbrev pub clears : Conduct
-clears = record { answer = answerOf; back = λ a. unanswered (backOf a .number) (columnsAll 0 (backOf a .areas)) }
+clears = record { answer = answerOf; back = λ a. unanswered Untested (backOf a .number) (columnsAll 0 (backOf a .areas)) }
 
 -- a refusal that writes
 abbrev pub refusalWrites : Conduct
@@ -96,7 +97,7 @@ refusalWrites =
     record {
       answer = λ c.
           cond (eqb (answerOf c .number) 0) (answerOf c)
-          (record { number = answerOf c .number; text = answerOf c .text; areas = columnsAll 0x30 (answerOf c .areas) });
+          (record { number = answerOf c .number; text = answerOf c .text; areas = columnsAll 0x30 (answerOf c .areas); sum = answerOf c .sum });
       back = backOf;
     }
 
@@ -106,7 +107,7 @@ forgets = record { answer = λ c. answerOf (callOn (withEntries [] (c .areas)) (
 
 -- a step back that takes nothing away
 abbrev pub takesNothing : Conduct
-takesNothing = record { answer = answerOf; back = λ a. unanswered (backOf a .number) a }
+takesNothing = record { answer = answerOf; back = λ a. unanswered Untested (backOf a .number) a }
 
 -- "demand 3 counts whole writes", whatever else a board does
 pub record NotWhole : Type 0 where
@@ -125,6 +126,7 @@ moreEntered c (Order m start count) o =
       text = o .text;
       areas =
           withEntries (added (length (c .areas .journal)) (entries (c .areas)) (oldEntry (held c) pointsTag 1 (held c .points) (c .areas))) (o .areas);
+      sum = o .sum;
     })
     o
 

@@ -1,7 +1,7 @@
 -- Document 01, "Proved cases", together: one table and one statement, in the documents' own strings.
 use Prim.Native.Nat.{ℕ}
 use mathlib.Core.Path.{_≡_}
-use mathlib.Core.Bool.{false}
+use mathlib.Core.Bool.{true, false}
 use mathlib.Core.List.{List, [], _∷_, _++_}
 use lib.IntN.{pos, negsuc}
 use lib.ListN.{replicate}
@@ -33,13 +33,14 @@ holding n = record { points = n; firsts = record { integer = 200; flag = 600 } }
 abbrev pub blank : Areas
 blank = fresh (holding 500) 32768
 
--- a frame to a station of a cabinet release (02, l) with all that comes beside one; to the bench, release 1; and the call that this makes
+-- a frame to a station of a cabinet release (02, l) with all that comes beside one, '@@' allowed (02, f); to the bench, release 1; and the call that this
+-- makes
 abbrev pub sendingTo : ℕ → ℕ → List ℕ → Sent
 sendingTo station release frame =
     record {
       frame = frame;
       axes = eightAxes (replicate 8 zeroRecord);
-      settings = record { station = station; release = release; fitted = 0xFF };
+      settings = record { station = station; release = release; unchecked = true; fitted = 0xFF };
       reply = replicate 1024 0;
     }
 

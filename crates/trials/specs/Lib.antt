@@ -5,3 +5,4 @@ pub mod Examples
 pub mod SurviveExamples
 pub mod TestCallExamples
 pub mod ReleaseExamples
+pub mod SumExamples

@@ -3,7 +3,7 @@
 use Prim.Native.Nat.{ℕ, _+_}
 use Prim.Native.String.{String}
 use mathlib.Core.Path.{_≡_}
-use mathlib.Core.Bool.{cond, not, _&&_}
+use mathlib.Core.Bool.{true, cond, not, _&&_}
 use mathlib.Core.Logic.{_⊎_}
 use mathlib.Core.List.{[], _++_, map}
 use lib.Dec.{eqb}
@@ -11,6 +11,8 @@ use lib.ListN.{drop, replicate}
 use Rattle.digits.specs.Digits.{within, admitted, capital, capitals}
 use Rattle.digits.specs.Text.{text}
 use Rattle.frames.specs.Frame.{normal, stationIn, messageIn, hasTestID, sumTrue, sumOff, replyOf}
+use Rattle.frames.specs.declared.checks.Sum.the-variants.{Wrong}
+use Rattle.calls.specs.declared.Told.the-variants.{Said}
 use Rattle.calls.specs.Calls.{Areas, Sent, Call, Outcome, areaIn}
 use Rattle.axes.specs.Records.{noAxes}
 use Rattle.orders.specs.Orders.{saidBy}
@@ -67,8 +69,8 @@ pub record ReleaseExamples : Type 0 where
   -- an error reply depends on the release: 102, and 103
   pub errors : (numbered 1 "!9A208a@@\r\n" ≡ 102) × (numbered 2 "!9A208a@@\r\n" ≡ 103)
   -- the premises: letters of either size, of a 24EH and of a 200H; a frame that release 1 accepts
-  pub either-size : EitherSize (host 2) (text "9a") (text "24e0012c024a4C") (text "1a") (text "24E0012C024A4C")
-  pub either-test-call : EitherSize (host 2) (text "9a") (text "200abcdefABCD") (text "aC") (text "200abcdefABCD")
+  pub either-size : EitherSize (host 2) true (text "9a") (text "24e0012c024a4C") (text "1a") (text "24E0012C024A4C")
+  pub either-test-call : EitherSize (host 2) true (text "9a") (text "200abcdefABCD") (text "aC") (text "200abcdefABCD")
   pub accepted : answerOf (under 1 (asks blank 2 "!9A208@@\r\n")) .number ≡ 0
 
 -- boards that go by one rule alone, whatever the release
@@ -91,7 +93,7 @@ idAsSent = honestBut (λ c o. whenAccepted c (withID c (asked c)) o)
 abbrev pub sumOfCapitals : Conduct
 sumOfCapitals =
     honestBut (λ c o.
-    whenAccepted c (λ r. cond (not (sumOff (c .sent .frame)) && not (sumTrue 2 (capitals (c .sent .frame)))) (unanswered 7 (c .areas)) r) o)
+    whenAccepted c (λ r. cond (not (sumOff (c .sent .frame)) && not (sumTrue 2 (capitals (c .sent .frame)))) (unanswered (Said Wrong) 7 (c .areas)) r) o)
 
 -- one that says a 200H's ten bytes back in capitals where its station came in small letters
 abbrev pub tenInCapitals : Conduct

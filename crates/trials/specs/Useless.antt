@@ -23,7 +23,7 @@ use Rattle.link.specs.Answer.{held, asked, unanswered, answerOf, backOf}
 use Rattle.link.specs.Contract.{Answers}
 use Rattle.demands.specs.Refused.{asksWrite}
 use Rattle.demands.specs.History.{Conduct, entries, entryBy}
-use Rattle.demands.specs.Reading.{startOf, countOf, Host, asking, effectiveOf}
+use Rattle.demands.specs.Reading.{startOf, countOf, Host, allowed, asking, effectiveOf}
 use Rattle.demands.specs.Survive.{Accepted, EveryDigitSurvives}
 
 -- "one that refuses all frames"
@@ -54,6 +54,7 @@ pub record InventsCount (answer : Call → Outcome) : Type 0 where
   pub host : Sent
   pub heard : Host host
   pub checked : Bool
+  pub lets : allowed host checked ≡ true
   pub other :
       answer (asking (answer call .areas) host checked (text "208")) .text
       ≡ replyOf normal (host .settings .station) (text "208" ++ digitsOf 3 (effectiveOf (answer call .areas))) → ⊥
@@ -86,20 +87,21 @@ handingOn kept a = areasOf (a .points) (a .columns) (a .integers) (a .flags) (a 
 abbrev pub Meets : Board → Type 0
 Meets board = (c : Call) → Answers c (board c .answered) (board c .areas) (board c .reply)
 
--- its outcome: the number, the bytes that it replies, the areas with the used length that it hands on
+-- its outcome: the number, the bytes that it replies, the areas with the used length that it hands on, what it tells of the sum
 abbrev pub outcomeBy : Board → Call → Outcome
 outcomeBy board c =
     record {
       number = board c .answered .number;
       text = take (board c .answered .length) (board c .reply);
       areas = handingOn (board c .answered .kept) (board c .areas);
+      sum = board c .answered .sum;
     }
 
 -- a board that gives an outcome: the reply laid over the front of the reply area
 abbrev pub given : (Call → Outcome) → Board
 given answer c =
     record {
-      answered = record { number = answer c .number; length = length (answer c .text); kept = answer c .areas .kept };
+      answered = record { number = answer c .number; length = length (answer c .text); kept = answer c .areas .kept; sum = answer c .sum };
       areas = answer c .areas;
       reply = laid (c .sent .reply) 0 (answer c .text);
     }
@@ -129,7 +131,7 @@ abbrev pub honestBut : (Call → Outcome → Outcome) → Conduct
 honestBut change = record { answer = λ c. change c (answerOf c); back = backOf }
 
 abbrev pub saying : List ℕ → Outcome → Outcome
-saying said o = record { number = o .number; text = said; areas = o .areas }
+saying said o = record { number = o .number; text = said; areas = o .areas; sum = o .sum }
 
 abbrev pub storing : Areas → Outcome → Outcome
 storing a o =
@@ -137,10 +139,11 @@ storing a o =
       number = o .number;
       text = o .text;
       areas = areasOf (a .points) (a .columns) (a .integers) (a .flags) (o .areas .journal) (o .areas .kept) (o .areas .firsts);
+      sum = o .sum;
     }
 
 abbrev pub handing : ℕ → Outcome → Outcome
-handing used o = record { number = o .number; text = o .text; areas = handingOn (record { used = used }) (o .areas) }
+handing used o = record { number = o .number; text = o .text; areas = handingOn (record { used = used }) (o .areas); sum = o .sum }
 
 -- in what is accepted alone, and in accepted writes alone
 abbrev pub whenAccepted : Call → (Outcome → Outcome) → Outcome → Outcome
@@ -165,7 +168,7 @@ tells count c (Order m start many) o =
     cond (eqb (m .id) 0x208 && eqb (o .number) 0) (saying (replyOf normal (c .sent .settings .station) (text "208" ++ digitsOf 3 count)) o) o
 
 abbrev pub refuser : Conduct
-refuser = honestBut (λ c o. unanswered 8 (c .areas))
+refuser = honestBut (λ c o. unanswered (o .sum) 8 (c .areas))
 
 abbrev pub parrot : Conduct
 parrot = honestBut (λ c o. whenAccepted c (saying (text "#9920000123456782B\r\n")) o)

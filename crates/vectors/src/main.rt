@@ -3,9 +3,11 @@ use axes::AxisRecord;
 use axes::read_axes;
 use calls::Kept;
 use calls::Settings;
+use calls::Told;
 use digits::wide;
 use finder::Found;
 use finder::find;
+use frames::checks::Sum;
 use io::print_decimal;
 use kinds::Firsts;
 use lent::answer_lent;
@@ -61,13 +63,14 @@ fn number(rest: &[u8], from: usize, width: usize) -> usize
     n
 }
 
-// Which axes are fitted, then the station, then the release.
+// Which axes are fitted, then the station, then the release, then whether '@@' is allowed.
 fn settings_at(rest: &[u8], from: usize) -> Settings
     requires { ⌜ from ≤ 14 ⌝ }
 {
     Settings {
         station: byte_at(rest, from + 1),
         release: byte_at(rest, from + 2),
+        unchecked: byte_at(rest, from + 3) != 0,
         fitted: byte_at(rest, from),
     }
 }
@@ -216,13 +219,27 @@ fn answer_frame(
     )
 }
 
+// 0 untested, 1 true, 2 switched off, 3 wrong.
+fn sum_code(told: Told) -> usize {
+    match told {
+        Told::Untested => 0,
+        Told::Said(sum) => match sum {
+            Sum::True => 1,
+            Sum::SwitchedOff => 2,
+            Sum::Wrong => 3,
+        },
+    }
+}
+
 // The numbers of an answer; the used length.
 fn say_answered(answered: Answered) -> usize {
     let after = answered.kept;
+    let told = answered.sum;
     say(b"F");
     say_number(answered.number as usize);
     say_number(answered.length);
     say_number(after.used);
+    say_number(sum_code(told));
     after.used
 }
 
@@ -317,11 +334,11 @@ fn board_of(rest: &[u8]) -> Board {
         columns: 700,
         integers: 400,
         flags: 300,
-        journal: number(rest, 6, 4),
+        journal: number(rest, 7, 4),
         reply: 1024,
         axes: 72,
         settings: settings_at(rest, 3),
-        firsts: firsts_at(rest, 10),
+        firsts: firsts_at(rest, 11),
         used: 0,
     }
 }
@@ -392,7 +409,7 @@ fn settle(rest: &[u8], board: Board) -> Board {
         b.used = number(rest, 1, 8);
     } else if op == 0x50 {
         b.settings = settings_at(rest, 1);
-        b.firsts = firsts_at(rest, 4);
+        b.firsts = firsts_at(rest, 5);
     } else if op == 0x52 {
         let from = within(3, rest);
         play_find(&rest[from..]);
@@ -496,13 +513,13 @@ fn play(
 fn size(rest: &[u8]) -> usize {
     let op = byte_at(rest, 0);
     if op == 0x42 {
-        return 14;
+        return 15;
     }
     if op == 0x55 {
         return 9;
     }
     if op == 0x50 {
-        return 8;
+        return 9;
     }
     if op == 0x58 {
         return 7;

@@ -74,14 +74,17 @@ pub fn second(call: &Call, lent: &mut Lent) -> Answer {
 
 /// All inputs of a call as text, zero lines left out.
 pub fn dump(call: &Call, lent: &Lent) -> String {
-    let Settings { fitted, station, release, firsts } = lent.settings;
+    let Settings { fitted, station, release, unchecked, firsts } = lent.settings;
     let name = match call {
         Call::Answer { .. } => "answer",
         Call::StepBack => "step back",
         Call::Receive { .. } => "receive",
     };
     let mut text = format!("call: {name}\n");
-    let _ = writeln!(text, "fitted {fitted:02X} station {station:02X} release {release}");
+    let _ = writeln!(
+        text,
+        "fitted {fitted:02X} station {station:02X} release {release} unchecked {unchecked:02X}"
+    );
     let _ = writeln!(text, "used {}", lent.board.used);
     let _ = writeln!(text, "first integer {:04X} first flag {:04X}", firsts.integer, firsts.flag);
     for (name, bytes) in NAMES.into_iter().zip(parts(call, lent)) {
@@ -114,8 +117,10 @@ mod tests {
             reply: vec![0xEE; 33],
         };
         let text = dump(&Call::Answer { frame: b"!99".to_vec() }, &lent);
-        let settings = "fitted FF station 99 release 1\nused 0\nfirst integer 00C8 first flag 0258";
-        assert!(text.starts_with(&format!("call: answer\n{settings}\nhanded bytes: 3 bytes\n")));
+        let settings = "fitted FF station 99 release 1 unchecked 01\nused 0\n";
+        let firsts = "first integer 00C8 first flag 0258\n";
+        let front = ["call: answer\n", settings, firsts, "handed bytes: 3 bytes\n"].concat();
+        assert!(text.starts_with(&front));
         assert!(text.contains("      0 213939\npoints: 40 bytes\ncolumns: 700 bytes\n"));
         assert!(text.contains("integers: 400 bytes\nflags: 300 bytes\njournal: 540 bytes\n"));
         assert!(text.ends_with("     32 EE\n"));

@@ -150,7 +150,18 @@ pub fn settings(dice: &mut Dice) -> Settings {
         1 => dice.pick(&[0xAB, 0x9F, 0xF9, 0xCD, 0x0E, 0xA0]),
         _ => dice.byte(),
     };
-    Settings { fitted, station, release: dice.pick(&[1, 2]), firsts: firsts(dice) }
+    let (release, unchecked) = (dice.pick(&[1, 2]), unchecked(dice));
+    Settings { fitted, station, release, unchecked, firsts: firsts(dice) }
+}
+
+/// Whether '@@' is allowed: 0 forbids it, any other value allows it.
+pub fn unchecked(dice: &mut Dice) -> u8 {
+    match dice.roll(12) {
+        0..=3 => 0,
+        4..=6 => 1,
+        7..=10 => dice.pick(&[0x80, 0xFF, 0x02, 0x10]),
+        _ => dice.byte(),
+    }
 }
 
 /// A release that names no rule; any drawn one may be 1 or 2.

@@ -3,7 +3,8 @@
 use super::compare::Lent;
 use super::dice::Dice;
 use super::{drawn_letters, drawn_test_calls};
-use crate::areas::{Kind, AXES};
+use crate::areas::{Kind, Settings, AXES};
+use crate::bench::command;
 use crate::digits;
 use crate::frames::{self, LONGEST_FRAME, SHORTEST_FRAME};
 
@@ -64,7 +65,7 @@ impl Asking {
     }
 }
 
-/// A frame that no refusal meets, where the areas are sound.
+/// A frame that no refusal meets, where the areas are sound; but 12 now and then where '@@' is forbidden.
 pub fn good(dice: &mut Dice, lent: &Lent) -> Vec<u8> {
     let mut frame = in_capitals(dice, lent);
     small_where_allowed(dice, lent, &mut frame);
@@ -73,7 +74,7 @@ pub fn good(dice: &mut Dice, lent: &Lent) -> Vec<u8> {
 
 fn in_capitals(dice: &mut Dice, lent: &Lent) -> Vec<u8> {
     let asking = asking(dice, lent);
-    closed(dice, lent.settings.station, &asking.text())
+    closed(dice, lent.settings, &asking.text())
 }
 
 /// Under release 2 every second frame gets small letters.
@@ -95,6 +96,19 @@ pub fn odd_letters(dice: &mut Dice, lent: &Lent) -> Vec<u8> {
     frame
 }
 
+/// A frame good but for its SC, which is '@@' or wrong, and now and then for its station as well.
+pub fn odd_sc(dice: &mut Dice, lent: &Lent) -> Vec<u8> {
+    let mut frame = in_capitals(dice, lent);
+    if dice.one_in(3) {
+        other_station(dice, &mut frame);
+    }
+    match dice.one_in(3) {
+        true => set_sc(&mut frame, MARKS),
+        false => wrong_sc(dice, &mut frame),
+    }
+    frame
+}
+
 /// A frame with one fault or more.
 pub fn damaged(dice: &mut Dice, lent: &Lent) -> Vec<u8> {
     match dice.roll(17) {
@@ -112,7 +126,7 @@ pub fn damaged(dice: &mut Dice, lent: &Lent) -> Vec<u8> {
             }
             let mut text = asking.text();
             lengthened(dice, &mut text);
-            let mut frame = closed(dice, lent.settings.station, &text);
+            let mut frame = closed(dice, lent.settings, &text);
             small_where_allowed(dice, lent, &mut frame);
             if dice.one_in(12) {
                 return spoiled(dice, frame);
@@ -122,13 +136,14 @@ pub fn damaged(dice: &mut Dice, lent: &Lent) -> Vec<u8> {
     }
 }
 
-/// '!', station, the text, then a true SC or '@@', CR and LF.
-fn closed(dice: &mut Dice, station: u8, text: &[u8]) -> Vec<u8> {
-    let mut frame = vec![b'!'];
-    digits::push(&mut frame, u32::from(station), 2);
-    frame.extend(text);
-    frame = frames::closed(frame);
-    if dice.one_in(3) {
+/// '!', station, the text, then a true SC or '@@', CR and LF; '@@' is rare where it is forbidden.
+fn closed(dice: &mut Dice, settings: Settings, text: &[u8]) -> Vec<u8> {
+    let mut frame = command(settings.station, text);
+    let one_in = match settings.unchecked {
+        0 => 12,
+        _ => 3,
+    };
+    if dice.one_in(one_in) {
         set_sc(&mut frame, MARKS);
     }
     frame
@@ -402,7 +417,7 @@ fn overlong(dice: &mut Dice, lent: &Lent) -> Vec<u8> {
     }
     let run = Named { kind: lent.kinds().points, start: 1, count, widths: OF_POINTS };
     let asking = Asking::points(b"244", run, rest);
-    closed(dice, lent.settings.station, &asking.text())
+    closed(dice, lent.settings, &asking.text())
 }
 
 /// A 200H of another length than 20 bytes, now and then with another fault besides.
@@ -417,7 +432,7 @@ fn odd_test_call(dice: &mut Dice, lent: &Lent) -> Vec<u8> {
         false => dice.bytes_of(b"!\r\n0", length - SHORTEST_FRAME),
     };
     let text = [b"200", content.as_slice()].concat();
-    let mut frame = closed(dice, lent.settings.station, &text);
+    let mut frame = closed(dice, lent.settings, &text);
     match dice.roll(4) {
         0 => other_station(dice, &mut frame),
         1 => wrong_sc(dice, &mut frame),
@@ -469,10 +484,10 @@ fn spoiled(dice: &mut Dice, mut frame: Vec<u8>) -> Vec<u8> {
 fn wrong_sc(dice: &mut Dice, frame: &mut [u8]) {
     mend_sc(frame);
     let at = frame.len() - 4;
-    match dice.roll(6) {
+    match dice.roll(7) {
         0 => frame[at + dice.roll(2)] = dice.pick(b"0123456789ABCDEF"),
         1 => frame[at..at + 2].make_ascii_lowercase(),
-        2 => frame[at + dice.roll(2)] = b'@',
+        2 | 5 => frame[at + dice.roll(2)] = b'@',
         3 => frame.swap(at, at + 1),
         4 => {
             let with_end = frames::sc(&frame[..at + 2]);

@@ -2,6 +2,7 @@
 
 use super::calls::Finding;
 use super::compare::{parts, Answer, Call, Lent, NAMES, PARTS};
+use crate::link::Outcome;
 use std::io::{self, Read};
 use std::ops::Range;
 
@@ -15,7 +16,7 @@ const LONGEST: usize = 1 << 20;
 pub struct Left {
     /// The number that the call returns.
     pub number: u16,
-    /// The reply's length; or start, length and drop; the others unset.
+    /// The reply's length and what the sum test said; or start, length and drop; the others unset.
     pub out: [u64; 3],
     pub used: u64,
     pub areas: [AreaLeft; PARTS],
@@ -35,8 +36,8 @@ impl Left {
     /// What a call leaves that found `before`, left `after` and answered so.
     pub fn of(call: &Call, before: &Lent, after: &Lent, answer: Answer) -> Left {
         let (number, out) = match answer {
-            Answer::Answered(outcome) => {
-                (outcome.number, [outcome.reply_length as u64, UNSET, UNSET])
+            Answer::Answered(Outcome { number, reply_length, sum }) => {
+                (number, [reply_length as u64, u64::from(sum), UNSET])
             }
             Answer::SteppedBack(number) => (number, [UNSET; 3]),
             Answer::Received(Finding { code, start, length, drop }) => {

@@ -16,6 +16,7 @@ pub mod player;
 pub mod product;
 pub mod run;
 pub mod spoil;
+pub mod sum_places;
 pub mod tally;
 
 pub use calls::{Areas, Calls, Finding, SecondProgram};

@@ -3,6 +3,7 @@
 use super::calls::Finding;
 use super::compare::{Answer, Call, Lent};
 use super::letter_places::{of_letters, LETTER_PLACES};
+use super::sum_places::{self, of_sum};
 use crate::areas::{Area, Board, Kinds, Run, Settings, FLAGS, INTEGER, INTEGERS, SLOT};
 use crate::digits;
 use crate::frames::{LONGEST_FRAME, LONGEST_REPLY, SHORTEST_FRAME, TEST_CALL_FRAME};
@@ -11,10 +12,10 @@ use crate::link::Outcome;
 
 /// All places a run must come by, besides numbers and messages.
 pub fn all() -> impl Iterator<Item = &'static str> {
-    PLACES.into_iter().chain(LETTER_PLACES)
+    PLACES.into_iter().chain(LETTER_PLACES).chain(sum_places::all())
 }
 
-/// All but those of small letters.
+/// All but those of small letters and of what the sum test says.
 const PLACES: [&str; 60] = [
     "true SC accepted",
     "'@@' accepted",
@@ -88,6 +89,7 @@ pub fn reached(call: &Call, before: &Lent, after: &Lent, answer: Answer) -> Vec<
         (Call::Answer { frame }, Answer::Answered(outcome)) => {
             places.extend(of_areas(before, outcome.number));
             places.extend(of_letters(frame, before, outcome.number));
+            places.extend(of_sum(frame, before, outcome));
             let frame = as_read(frame, before.settings.release);
             places.extend(of_frame(&frame, before, after, outcome));
         }

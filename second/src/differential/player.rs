@@ -109,12 +109,13 @@ impl Line {
             Call::StepBack => b'S',
             Call::Receive { .. } => b'R',
         };
-        let Settings { fitted, station, release, firsts } = made.before.settings;
+        let Settings { fitted, station, release, unchecked, firsts } = made.before.settings;
         let numbers = [
             (made.before.board.used as u64, 8),
             (u64::from(fitted), 1),
             (u64::from(station), 1),
             (u64::from(release), 1),
+            (u64::from(unchecked), 1),
             (u64::from(firsts.integer), 2),
             (u64::from(firsts.flag), 2),
         ];

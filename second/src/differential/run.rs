@@ -90,8 +90,12 @@ impl Run<'_> {
     /// One call, or several steps back; what is accepted stays for the next.
     fn next(&mut self, lent: &mut Lent) -> Result<(), Difference> {
         match self.dice.roll(100) {
-            0..=48 => {
+            0..=45 => {
                 let frame = drawn_frames::good(&mut self.dice, lent);
+                self.make(Call::Answer { frame }, lent)
+            }
+            46..=48 => {
+                let frame = drawn_frames::odd_sc(&mut self.dice, lent);
                 self.make(Call::Answer { frame }, lent)
             }
             49..=54 => {
@@ -132,9 +136,10 @@ impl Run<'_> {
     fn spoiled(&mut self, lent: &Lent) -> Result<(), Difference> {
         let mut copy = lent.clone();
         spoil::spoil(&mut self.dice, &mut copy);
-        let call = match self.dice.roll(8) {
+        let call = match self.dice.roll(9) {
             0..=2 => Call::StepBack,
             3 | 4 => Call::Answer { frame: drawn_frames::damaged(&mut self.dice, lent) },
+            5 => Call::Answer { frame: drawn_frames::odd_sc(&mut self.dice, lent) },
             _ => Call::Answer { frame: drawn_frames::good(&mut self.dice, lent) },
         };
         self.make(call, &mut copy)

@@ -37,7 +37,7 @@ fn spoil_one(dice: &mut Dice, lent: &mut Lent) {
 /// Changes that leave the board sound: settings, records, old bytes, bytes beyond the used length.
 pub fn change(dice: &mut Dice, lent: &mut Lent) {
     let used = lent.board.used.min(lent.board.journal.len());
-    match dice.roll(13) {
+    match dice.roll(15) {
         0 => lent.settings = other_settings(dice, lent),
         1 => lent.axes = drawn_boards::axes(dice),
         2 => lent.reply = drawn_boards::reply(dice),
@@ -49,6 +49,7 @@ pub fn change(dice: &mut Dice, lent: &mut Lent) {
         8 => dice.spoil_byte(&mut lent.board.flags),
         9 => drawn_boards::use_flags(dice, &mut lent.board.flags),
         10 | 11 => lent.settings.release = other_release(lent.settings.release),
+        12 | 13 => lent.settings.unchecked = drawn_boards::unchecked(dice),
         _ => dice.spoil_byte(&mut lent.reply),
     }
 }

@@ -1,4 +1,4 @@
-//! What a run of calls reached: numbers, messages, and places near a limit.
+//! What a run of calls reached: numbers, sums, messages, and places near a limit.
 
 use super::calls::Finding;
 use super::compare::{Answer, Call, Lent};
@@ -9,14 +9,17 @@ use std::fmt;
 
 pub const MESSAGES: [&str; 12] =
     ["200", "208", "209", "20D", "20E", "210", "212", "244", "246", "24B", "24C", "24E"];
-const ANSWERS: [u16; 19] =
-    [0, 1, 2, 3, 10, 4, 5, 13, 6, 7, 8, 101, 102, 103, 104, 105, 106, 107, 108];
+const ANSWERS: [u16; 20] =
+    [0, 1, 2, 3, 10, 4, 5, 13, 6, 12, 7, 8, 101, 102, 103, 104, 105, 106, 107, 108];
+/// What the sum test said, by its number.
+const SUMS: [&str; 4] = ["untested", "true", "switched off", "wrong"];
 const STEPS_BACK: [u16; 6] = [0, 2, 3, 10, 4, 9];
 const FINDINGS: [&str; 4] = ["a frame", "nothing", "wait", "too long"];
 
 #[derive(Clone, Debug, Default, PartialEq, Eq)]
 pub struct Tally {
     answers: BTreeMap<u16, usize>,
+    sums: [usize; 4],
     steps_back: BTreeMap<u16, usize>,
     findings: [usize; 4],
     /// Accepted and refused frames of each message, and accepted ones with a small letter among
@@ -34,6 +37,7 @@ impl Tally {
         match (call, answer) {
             (Call::Answer { frame }, Answer::Answered(outcome)) => {
                 *self.answers.entry(outcome.number).or_default() += 1;
+                self.sums[usize::from(outcome.sum)] += 1;
                 let read = as_read(frame, before.settings.release);
                 let kinds = self.messages.entry(message_of(&read)).or_default();
                 kinds[usize::from(outcome.number != 0)] += 1;
@@ -55,6 +59,9 @@ impl Tally {
         };
         for number in ANSWERS {
             look(format!("answer {number}"), self.answers.get(&number).copied().unwrap_or(0));
+        }
+        for (name, count) in SUMS.into_iter().zip(self.sums) {
+            look(format!("sum {name}"), count);
         }
         for number in STEPS_BACK {
             look(format!("step back {number}"), self.steps_back.get(&number).copied().unwrap_or(0));
@@ -80,6 +87,10 @@ impl fmt::Display for Tally {
         writeln!(out, "answers by number")?;
         for (number, count) in &self.answers {
             writeln!(out, "  {number:<42}{count:>10}")?;
+        }
+        writeln!(out, "sums")?;
+        for (name, count) in SUMS.iter().zip(self.sums) {
+            writeln!(out, "  {name:<42}{count:>10}")?;
         }
         writeln!(out, "steps back by number")?;
         for (number, count) in &self.steps_back {

@@ -9,9 +9,11 @@ use crate::journal::least_length;
 use crate::link;
 
 const BOARDS: usize = 40;
+/// One that reaches many numbers with few bytes.
+const SEED: u64 = 105;
 
 pub fn add(script: &mut Script) {
-    let mut dice = Dice::new(1);
+    let mut dice = Dice::new(SEED);
     for _ in 0..BOARDS {
         board(script, &mut dice);
     }

@@ -7,6 +7,7 @@ mod play;
 mod refusal_cases;
 mod release_cases;
 mod script;
+mod sum_cases;
 mod test_call_cases;
 mod variable_cases;
 mod variable_refusals;
@@ -25,6 +26,7 @@ pub fn stdin() -> Vec<u8> {
     variable_refusals::add(&mut script);
     test_call_cases::add(&mut script);
     release_cases::add(&mut script);
+    sum_cases::add(&mut script);
     drawn_cases::add(&mut script);
     script.end()
 }
@@ -52,13 +54,31 @@ mod tests {
         // The product's program reads at most 131,072 bytes.
         assert!(stdin.len() < 131_072, "{} bytes", stdin.len());
         let lines = stdout.lines().count();
-        assert!((300..=1_700).contains(&lines), "{lines} lines");
+        assert!((300..=1_900).contains(&lines), "{lines} lines");
         let numbers = |letter: &str| -> BTreeSet<u16> {
             let lines = stdout.lines().filter_map(|line| line.strip_prefix(letter));
             lines.filter_map(|line| line.split(' ').next()?.parse().ok()).collect()
         };
-        assert_eq!(numbers("F "), (0..=8).chain([10, 13]).chain(101..=108).collect());
+        assert_eq!(numbers("F "), (0..=8).chain([10, 12, 13]).chain(101..=108).collect());
         assert_eq!(numbers("S "), BTreeSet::from([0, 2, 3, 4, 9, 10]));
         assert_eq!(numbers("R "), BTreeSet::from([0, 1, 2, 3]));
+    }
+
+    #[test]
+    fn the_vectors_reach_each_number_with_each_sum_that_goes_with_it() {
+        let reached: BTreeSet<[u16; 2]> = both().1.lines().filter_map(number_and_sum).collect();
+        let untested = [1, 2, 3, 4, 5, 6, 10, 13].map(|number| [number, 0]);
+        let later = [0, 8].into_iter().chain(101..=108);
+        let tested = later.flat_map(|number| [[number, 1], [number, 2]]);
+        let refused = [[7, 3], [12, 2]];
+        assert_eq!(reached, tested.chain(untested).chain(refused).collect());
+    }
+
+    /// Of a frame's line.
+    fn number_and_sum(line: &str) -> Option<[u16; 2]> {
+        let mut fields = line.strip_prefix("F ")?.split(' ');
+        let number = fields.next()?.parse().ok()?;
+        let sum = fields.nth(2)?.parse().ok()?;
+        Some([number, sum])
     }
 }

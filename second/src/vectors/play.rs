@@ -4,7 +4,8 @@ use super::script::Part;
 use crate::areas::{Board, Firsts, Settings};
 use crate::bench::SETTINGS;
 use crate::differential::Finding;
-use crate::{frames, link};
+use crate::frames;
+use crate::link::{self, Outcome};
 use std::fmt::Write;
 
 /// How many areas there are, and the buffers they are lent from, in the order of `Part`.
@@ -71,9 +72,9 @@ impl Player<'_> {
     /// A fresh board. Whole buffers are cleared, so that nothing of another board is ever lent.
     fn board(&mut self) {
         let points = 40 * self.number(2) as usize;
-        let [fitted, station, release] = self.three();
+        let four = self.four();
         let journal = self.number(4) as usize;
-        self.settings = Settings { fitted, station, release, firsts: self.firsts() };
+        self.settings = settings(four, self.firsts());
         for buffer in &mut self.buffers {
             buffer.fill(0);
         }
@@ -84,12 +85,11 @@ impl Player<'_> {
     }
 
     fn change_settings(&mut self) {
-        let [fitted, station, release] = self.three();
-        self.settings = Settings { fitted, station, release, firsts: self.firsts() };
+        self.settings = settings(self.four(), self.firsts());
     }
 
-    /// Fitted axes, station and release.
-    fn three(&mut self) -> [u8; 3] {
+    /// Fitted axes, station, release, and whether '@@' is allowed.
+    fn four(&mut self) -> [u8; 4] {
         std::array::from_fn(|_| self.number(1) as u8)
     }
 
@@ -146,8 +146,9 @@ impl Player<'_> {
         let outcome = link::answer(&frame, &mut board, axes, self.settings, &mut reply);
         self.lay_board(&board);
         self.lay(Part::Reply, &reply);
+        let Outcome { number, reply_length, sum } = outcome;
         let digests = [self.kept(), self.digest(Part::Reply)].concat();
-        self.write(format!("F {} {} {}{digests}", outcome.number, outcome.reply_length, self.used));
+        self.write(format!("F {number} {reply_length} {} {sum}{digests}", self.used));
     }
 
     fn step_back(&mut self) {
@@ -177,6 +178,10 @@ impl Player<'_> {
     fn write(&mut self, line: String) {
         let _ = writeln!(self.text, "{line}");
     }
+}
+
+fn settings([fitted, station, release, unchecked]: [u8; 4], firsts: Firsts) -> Settings {
+    Settings { fitted, station, release, unchecked, firsts }
 }
 
 /// For each byte h becomes (31·h + byte + 1) mod 4,294,967,291, from 0.
@@ -231,11 +236,12 @@ mod tests {
     #[test]
     fn a_small_script_by_hand() {
         let script = [
-            &b"B\x00\x01\xFF\x99\x01\x00\x00\x02\x1C\x00\xC8\x02\x58"[..],
+            &b"B\x00\x01\xFF\x99\x01\x80\x00\x00\x02\x1C\x00\xC8\x02\x58"[..],
             b"F\x00\x0A!99208@@\r\n",
-            b"P\x01\x98\x02\x00\xC8\x02\x58F\x00\x0A!99208@@\r\n",
-            b"P\x01\x98\x00\x00\xC8\x02\x58F\x00\x0A!98208@@\r\n",
-            b"P\x01\x98\x02\x0F\x9D\x02\x58SP\x01\x98\x01\x00\xC8\x02\x58",
+            b"P\x01\x98\x02\x01\x00\xC8\x02\x58F\x00\x0A!992082D\r\n",
+            b"P\x01\x98\x02\x00\x00\xC8\x02\x58F\x00\x0A!98208@@\r\n",
+            b"P\x01\x98\x00\x01\x00\xC8\x02\x58F\x00\x0A!98208@@\r\n",
+            b"P\x01\x98\x02\x00\x0F\x9D\x02\x58SP\x01\x98\x01\x01\x00\xC8\x02\x58",
             b"U\x00\x00\x00\x00\x00\x00\x00\x01S",
             b"L\x00\x00\x00\x00\x00X\x02\x00\x00\x00\x00\x07S",
             b"R\x00\x03!\r\nE",
@@ -243,18 +249,19 @@ mod tests {
         .concat();
         let text = play(&script);
         let lines: Vec<&str> = text.lines().collect();
-        assert_eq!(lines.len(), 7);
-        assert!(lines[0].starts_with("F 0 13 0 "));
-        assert_eq!(lines[0].split(' ').count(), 10);
-        assert!(lines[1].starts_with("F 8 0 0 "));
+        assert_eq!(lines.len(), 8);
+        assert!(lines[0].starts_with("F 0 13 0 2 "));
+        assert_eq!(lines[0].split(' ').count(), 11);
+        assert!(lines[1].starts_with("F 8 0 0 1 "));
         assert_eq!(lines[0].split(' ').next_back(), lines[1].split(' ').next_back());
-        assert!(lines[2].starts_with("F 13 0 0 "));
-        assert!(lines[3].starts_with("S 10 0 "));
-        assert!(lines[4].starts_with("S 4 1 "));
-        assert_eq!(lines[4].split(' ').count(), 8);
-        assert!(lines[5].starts_with("S 2 1 00000000 "));
-        assert_ne!(lines[4].split(' ').nth(5), lines[5].split(' ').nth(5));
-        assert_eq!(lines[6], "R 0 0 3 3");
+        assert!(lines[2].starts_with("F 12 0 0 2 "));
+        assert!(lines[3].starts_with("F 13 0 0 0 "));
+        assert!(lines[4].starts_with("S 10 0 "));
+        assert!(lines[5].starts_with("S 4 1 "));
+        assert_eq!(lines[5].split(' ').count(), 8);
+        assert!(lines[6].starts_with("S 2 1 00000000 "));
+        assert_ne!(lines[5].split(' ').nth(5), lines[6].split(' ').nth(5));
+        assert_eq!(lines[7], "R 0 0 3 3");
         assert!(text.ends_with('\n'));
     }
 }

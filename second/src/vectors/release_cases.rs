@@ -23,8 +23,8 @@ pub fn add(script: &mut Script) {
     thirteen_in_its_order(script);
 }
 
-/// A station with two letters.
-const AB: Settings = Settings { station: 0xAB, ..SETTINGS };
+/// A station with two letters; '@@' is allowed by another value than 1.
+const AB: Settings = Settings { station: 0xAB, unchecked: 0x80, ..SETTINGS };
 
 fn release_2(settings: Settings) -> Settings {
     Settings { release: 2, ..settings }

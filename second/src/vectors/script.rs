@@ -33,9 +33,15 @@ impl Script {
     pub fn board_with(&mut self, points: u16, journal_length: u32, settings: Settings) {
         self.bytes.push(b'B');
         self.bytes.extend(points.to_be_bytes());
-        self.bytes.extend([settings.fitted, settings.station, settings.release]);
+        self.four(settings);
         self.bytes.extend(journal_length.to_be_bytes());
         self.firsts(settings);
+    }
+
+    /// Fitted axes, station, release, and whether '@@' is allowed.
+    fn four(&mut self, settings: Settings) {
+        let Settings { fitted, station, release, unchecked, .. } = settings;
+        self.bytes.extend([fitted, station, release, unchecked]);
     }
 
     fn firsts(&mut self, settings: Settings) {
@@ -67,7 +73,8 @@ impl Script {
     }
 
     pub fn settings(&mut self, settings: Settings) {
-        self.bytes.extend([b'P', settings.fitted, settings.station, settings.release]);
+        self.bytes.push(b'P');
+        self.four(settings);
         self.firsts(settings);
     }
 

@@ -1,7 +1,8 @@
 //! Test calls with line ends in them (document 02, c): found, cut, skipped, answered, of another length.
 
 use super::script::{Script, STATION};
-use crate::bench::command;
+use crate::areas::Settings;
+use crate::bench::{command, SETTINGS};
 use crate::frames::{closed, LONGEST_FRAME};
 
 pub fn add(script: &mut Script) {
@@ -100,7 +101,7 @@ fn runs_of_heads(script: &mut Script) {
 }
 
 fn answered(script: &mut Script) {
-    script.board(1, 540);
+    script.board_with(1, 540, Settings { unchecked: 0xFF, ..SETTINGS });
     for text in TEXTS {
         script.frame(&test_call(text));
     }

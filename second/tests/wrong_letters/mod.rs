@@ -63,28 +63,32 @@ fn with_sc(frame: &[u8], sc: &[u8; 2]) -> Vec<u8> {
     [&frame[..frame.len() - 4], sc, &frame[frame.len() - 2..]].concat()
 }
 
-/// The frame whose sum is taken of the capitals.
-fn sum_of_capitals(frame: &[u8]) -> Vec<u8> {
-    let before = &frame[..frame.len() - 4];
-    if !has_small(before) || frame.ends_with(b"@@\r\n") {
-        return frame.to_vec();
-    }
-    match is_sum_of(frame, &before.to_ascii_uppercase()) {
-        true => with_sc(frame, b"@@"),
+/// The same frame with an SC that is true or wrong.
+fn judged(frame: &[u8], is_true: bool) -> Vec<u8> {
+    match is_true {
+        true => closed(frame[..frame.len() - 4].to_vec()),
         false => with_sc(frame, b"  "),
     }
 }
 
+/// The frame whose sum is taken of the capitals.
+fn sum_of_capitals(frame: &[u8]) -> Vec<u8> {
+    let before = &frame[..frame.len() - 4];
+    if !has_shape(frame) || !has_small(before) || frame.ends_with(b"@@\r\n") {
+        return frame.to_vec();
+    }
+    judged(frame, is_sum_of(frame, &before.to_ascii_uppercase()))
+}
+
 /// The frame with this byte taken as the digit F, its SC judged of the bytes as sent.
 fn with_digit(frame: &[u8], byte: u8) -> Vec<u8> {
-    if !frame.contains(&byte) || &frame[3..6] == b"200" {
+    if !has_shape(frame) || !frame.contains(&byte) || &frame[3..6] == b"200" {
         return frame.to_vec();
     }
     let read: Vec<u8> = frame.iter().map(|&b| if b == byte { b'F' } else { b }).collect();
-    let before = &frame[..frame.len() - 4];
-    match frame.ends_with(b"@@\r\n") || is_sum_of(&read, before) {
-        true => with_sc(&read, b"@@"),
-        false => with_sc(&read, b"  "),
+    match frame.ends_with(b"@@\r\n") {
+        true => read,
+        false => judged(&read, is_sum_of(&read, &frame[..frame.len() - 4])),
     }
 }
 
@@ -172,12 +176,18 @@ fn repeated_digits(id: &[u8]) -> usize {
     }
 }
 
-/// The number that a sound board gives; nothing is written.
-fn sound_number(frame: &[u8], areas: &Areas, axes: &[u8], settings: Settings, reply: &[u8]) -> u16 {
+/// What a sound board answers; nothing is written.
+pub fn sound(
+    frame: &[u8],
+    areas: &Areas,
+    axes: &[u8],
+    settings: Settings,
+    reply: &[u8],
+) -> Outcome {
     let parts = [&*areas.points, areas.columns, areas.integers, areas.flags, areas.journal];
     let [points, columns, integers, flags, journal] = &mut parts.map(<[u8]>::to_vec);
     let mut copy = Areas { points, columns, integers, flags, journal, used: areas.used };
-    SecondProgram.answer(frame, &mut copy, axes, settings, &mut reply.to_vec()).number
+    SecondProgram.answer(frame, &mut copy, axes, settings, &mut reply.to_vec())
 }
 
 impl Calls for WrongLetters {
@@ -193,9 +203,9 @@ impl Calls for WrongLetters {
         settings: Settings,
         reply: &mut [u8],
     ) -> Outcome {
-        let sound = sound_number(frame, areas, axes, settings, reply);
-        if let Some(number) = self.refuses(frame, settings.release, sound) {
-            return Outcome { number, reply_length: 0 };
+        let sound = sound(frame, areas, axes, settings, reply);
+        if let Some(number) = self.refuses(frame, settings.release, sound.number) {
+            return Outcome { number, reply_length: 0, sum: sound.sum };
         }
         let (taken, release) = self.takes(frame, settings.release);
         let settings = Settings { release, ..settings };

@@ -1,4 +1,5 @@
 use borrow.Author.Needs.{needs}
+use Rattle.board.proofs.Answered.{coded}
 use Rattle.board.proofs.cabinet_answer.Statement.{statement}
 use Rattle.board.proofs.cabinet_answer.Tie as tie
 
@@ -7,6 +8,9 @@ read-axes-requires c κs = search needs
 
 answer-requires : tie.Need-answer-requires
 answer-requires c κs = search needs
+
+sum-code-requires : tie.Need-sum-code-requires
+sum-code-requires c κs = search needs
 
 same-length : tie.Need-same-length
 same-length c = search needs
@@ -27,7 +31,9 @@ same-length-6 : tie.Need-same-length-6
 same-length-6 c = search needs
 
 returns : tie.Need-returns
-returns c = rw (c .before .before .before .before .before .before .before .before .before .before .before .before .before .before .before .read-axes .ensures) at (c .before .before .before .before .before .before .before .before .before .before .before .before .before .answer .ensures)
+returns c =
+    coded (c .sum-code .ensures)
+    (rw (c .before .before .before .before .before .before .before .before .before .before .before .before .before .before .before .before .read-axes .ensures) at (c .before .before .before .before .before .before .before .before .before .before .before .before .before .before .answer .ensures))
 
 pub cabinet-answer-spec : {M : Type 1} → statement M
 cabinet-answer-spec =
@@ -35,6 +41,7 @@ cabinet-answer-spec =
     (tie.spec
     read-axes-requires
     answer-requires
+    sum-code-requires
     same-length
     same-length-2
     same-length-3

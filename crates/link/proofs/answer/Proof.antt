@@ -21,7 +21,7 @@ abbrev start : tie.Else1 → tie.Start
 start g = g .before .before .before .before .before .before .before .before .before .before
 
 heard : (g : tie.Else1) → silentOf (call (start g)) ≡ 0
-heard g = silent-first (call (start g)) ∙ sym (g .before .silent .ensures) ∙ g .if1 .left
+heard g = silent-first (call (start g)) ∙ sym (g .before .silent .ensures .0) ∙ g .if1 .left
 
 silent-requires : tie.Need-silent-requires
 silent-requires c κs = search needs
@@ -30,7 +30,7 @@ same-length : tie.Need-same-length
 same-length c = search needs
 
 returns : tie.Need-returns
-returns c = let s = c .before .before .before .before .before .before .before .before .before .before in answered-silent (call s) _ (c .before .silent .ensures ∙ sym (silent-first (call s))) (c .if1 .taken)
+returns c = let s = c .before .before .before .before .before .before .before .before .before .before in answered-silent (call s) _ _ (c .before .silent .ensures .0 ∙ sym (silent-first (call s))) (c .before .silent .ensures .1) (c .if1 .taken)
 
 held-in-requires : tie.Need-held-in-requires
 held-in-requires c κs = search needs
@@ -62,7 +62,8 @@ same-length-3 c = search needs
 
 returns-2 : tie.Need-returns-2
 returns-2 c = let g = c .before .before .before .before .before .before .before .before .before in
-    answered-refused (call (start g)) _ _ _ (heard g) (same-asked _ _ _ (sym (c .before .before .before .before .before .asked .given .1) ∙ c .before .before .before .before .before .before .before .judge .ensures) (c .before .before .before .before .before .before .before .before .held-in .ensures)) (c .before .before .refuse .ensures .0)
+    answered-refused (call (start g)) _ _ _ (heard g) (same-asked _ _ _ (sym (c .before .before .before .before .before .asked .given .1) ∙ c .before .before .before .before .before .before .before .judge .ensures) (c .before .before .before .before .before .before .before .before .held-in .ensures)) (g .before .silent .ensures .1)
+    (c .before .before .refuse .ensures .0)
     (c .before .before .refuse .ensures .1)
 
 same-length-4 : tie.Need-same-length-4
@@ -84,7 +85,9 @@ same-length-9 : tie.Need-same-length-9
 same-length-9 c = search needs
 
 returns-3 : tie.Need-returns-3
-returns-3 c = accepted-so _ (c .accept .ensures) (c .before .before .before .before .before .before .before .before .before .before .before .before .before .perform .ensures)
+returns-3 c =
+    let g = c .before .before .before .before .before .before .before .before .before .before .before .before .before .before .before .before .before .before .before .before .before .before .before .before .before in
+    accepted-so _ (c .accept .ensures) (g .before .silent .ensures .1) (c .before .before .before .before .before .before .before .before .before .before .before .before .before .perform .ensures)
 
 pub answer-spec : {M : Type 1} → statement M
 answer-spec =

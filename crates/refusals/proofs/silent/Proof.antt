@@ -1,63 +1,41 @@
 use mathlib.Core.Path.{_≡_, refl, sym, ap, _∙_}
-use native.Mathlib.Omega.{arith}
-use Rattle.digits.proofs.Bools.{was-false, was-true}
-use Rattle.refusals.proofs.Rows.{silent-1, silent-area, silent-5, silent-13, silent-frame}
+use Rattle.calls.specs.declared.Told.the-variants.{Said}
+use Rattle.refusals.proofs.Rows.{silent-early, silent-long, silent-frame, told-untested, told-said}
 use borrow.Author.Needs.{needs}
 use Rattle.refusals.proofs.silent.Statement.{statement}
 use Rattle.refusals.proofs.silent.Tie as tie
 
+early-refusal-requires : tie.Need-early-refusal-requires
+early-refusal-requires c κs = search needs
+
 returns : tie.Need-returns
-returns c = let a = c .before .before .before .args in silent-1 (a .lengths) (a .journal .now) (a .kept) (a .reply) (a .frame .now) (a .axes) (a .settings) (c .if1 .taken)
+returns c =
+    let a = c .before .before .before .before .args in
+    let e = c .before .early-refusal .ensures in (
+      silent-early (a .lengths) (a .journal .now) (a .kept) (a .reply) (a .frame .now) (a .axes) (a .settings) e (c .if1 .taken),
+      sym (told-untested (a .settings .release) (a .frame .now) (λ z. c .if1 .taken (e ∙ z))),
+    )
 
-area-refusal-requires : tie.Need-area-refusal-requires
-area-refusal-requires c κs = search needs
-
-returns-2 : tie.Need-returns-2
-returns-2 c = let a = c .before .before .before .before .before .args in silent-area (a .lengths) (a .journal .now) (a .kept) (a .reply) (a .frame .now) (a .axes) (a .settings) (c .before .before .if1 .left) (c .before .area-refusal .ensures) (c .if2 .taken)
-
-fits-axes-requires : tie.Need-fits-axes-requires
-fits-axes-requires c κs = search needs
-
-returns-3 : tie.Need-returns-3
-returns-3 c =
-    let a = c .before .before .before .before .before .before .before .args in
-    silent-5 (a .lengths) (a .journal .now) (a .kept) (a .reply) (a .frame .now) (a .axes) (a .settings) (c .before .before .before .before .if1 .left)
-    (sym (c .before .before .before .area-refusal .ensures) ∙ c .before .before .if2 .left)
-    (was-false (c .before .fits-axes .ensures) (c .if3 .taken))
-
-fits-release-requires : tie.Need-fits-release-requires
-fits-release-requires c κs = search needs
-
-returns-4 : tie.Need-returns-4
-returns-4 c =
-    let a = c .before .before .before .before .before .before .before .before .before .args in
-    silent-13 (a .lengths) (a .journal .now) (a .kept) (a .reply) (a .frame .now) (a .axes) (a .settings) (c .before .before .before .before .before .before .if1 .left)
-    (sym (c .before .before .before .before .before .area-refusal .ensures) ∙ c .before .before .before .before .if2 .left)
-    (was-true (c .before .before .before .fits-axes .ensures) (c .before .before .if3 .left))
-    (was-false (c .before .fits-release .ensures) (c .if4 .taken))
+test-sum-requires : tie.Need-test-sum-requires
+test-sum-requires c κs =
+    let a = c .before .before .before .before .args in
+    silent-long (a .lengths) (a .journal .now) (a .kept) (a .reply) (a .frame .now) (a .axes) (a .settings) (sym (c .before .early-refusal .ensures) ∙ c .if1 .left)
 
 frame-refusal-requires : tie.Need-frame-refusal-requires
-frame-refusal-requires c κs = search needs
+frame-refusal-requires c κs =
+    let a = c .before .before .before .before .before .args in (
+      silent-long (a .lengths) (a .journal .now) (a .kept) (a .reply) (a .frame .now) (a .axes) (a .settings)
+          (sym (c .before .before .early-refusal .ensures) ∙ c .before .if1 .left),
+      c .test-sum .ensures,
+    )
 
-returns-5 : tie.Need-returns-5
-returns-5 c =
-    let a = c .before .before .before .before .before .before .before .before .before .before .args in
-    silent-frame (a .lengths) (a .journal .now) (a .kept) (a .reply) (a .frame .now) (a .axes) (a .settings) (c .before .before .before .before .before .before .before .if1 .left)
-    (sym (c .before .before .before .before .before .before .area-refusal .ensures) ∙ c .before .before .before .before .before .if2 .left)
-    (was-true (c .before .before .before .before .fits-axes .ensures) (c .before .before .before .if3 .left))
-    (was-true (c .before .before .fits-release .ensures) (c .before .if4 .left))
-    (c .frame-refusal .ensures)
+returns-2 : tie.Need-returns-2
+returns-2 c =
+    let a = c .before .before .before .before .before .before .args in
+    let e = sym (c .before .before .before .early-refusal .ensures) ∙ c .before .before .if1 .left in (
+      silent-frame (a .lengths) (a .journal .now) (a .kept) (a .reply) (a .frame .now) (a .axes) (a .settings) e (c .frame-refusal .ensures),
+      ap Said (c .before .test-sum .ensures) ∙ sym (told-said (a .settings .release) (a .frame .now) e),
+    )
 
 pub silent-spec : {M : Type 1} → statement M
-silent-spec =
-    tie.close
-    (tie.spec
-    returns
-    area-refusal-requires
-    returns-2
-    fits-axes-requires
-    returns-3
-    fits-release-requires
-    returns-4
-    frame-refusal-requires
-    returns-5)
+silent-spec = tie.close (tie.spec early-refusal-requires returns test-sum-requires frame-refusal-requires returns-2)

@@ -1,0 +1,276 @@
+-- Demand 2 of the sum.
+use Prim.Native.Nat.{ℕ, _≤_, _<_}
+use mathlib.Core.Path.{_≡_, refl, sym, ap, _∙_}
+use mathlib.Core.Logic.{_↔_}
+use mathlib.Core.Bool.{Bool, true, false, cond, not, _&&_, true≢false, false≢true}
+use mathlib.Core.List.{List, []}
+use native.Mathlib.Omega.{arith}
+use lib.Dec.{eqb}
+use lib.ListN.{length}
+use borrow.Author.Tests.{eqb-true, eqb-false}
+use Rattle.digits.specs.Laid.{laid}
+use Rattle.digits.specs.Text.{text}
+use Rattle.frames.specs.declared.checks.Sum.{Sum}
+use Rattle.frames.specs.declared.checks.Sum.the-variants.{True, SwitchedOff, Wrong}
+use Rattle.frames.specs.Frame.{contentIn, scIn, sumOff, sumPasses, sumSaid, stationPasses}
+use Rattle.frames.proofs.Bools.{and-false}
+use Rattle.frames.proofs.Three.{isOff, isWrong, which, one-of-three}
+use Rattle.messages.specs.Rows.{firstOf}
+use Rattle.kinds.specs.declared.Held.{Held}
+use Rattle.table.specs.declared.Named.{Named}
+use Rattle.table.specs.declared.Named.the-variants.{Known, Unknown}
+use Rattle.messages.specs.Asked.{askedRows, numberGiven}
+use Rattle.calls.specs.declared.Told.{Told}
+use Rattle.calls.specs.declared.Told.the-variants.{Untested, Said}
+use Rattle.calls.specs.Calls.{Areas, Call, Outcome, lengthsOf}
+use Rattle.refusals.specs.Refusals.{areaRows, earlyRows, frameRows, early, silentOf, toldOf}
+use Rattle.refusals.proofs.Rows.{forbidden, frameNumber, earlyNumber, early-rows, frame-rows, frame-by, past-early, early-passed, early-given, silent-is, call-passed, told-untested, told-said, same-told-after}
+use Rattle.link.specs.Answer.{held, asked, textOf, areasAfter, unanswered, answerOf}
+use Rattle.link.proofs.Answering.{silent-answer, heard-answer, asked-number}
+use Rattle.demands.specs.Refused.{among}
+use Rattle.demands.specs.History.{messageBy, ours}
+use Rattle.demands.specs.SwitchedOff.{allowing, silentBefore, answerBefore, Before, butSum, AsBefore, Off, Forbidden, OthersSame, earlyNumbers, SumTold, SwitchedOffRule, ContractAsBefore}
+use Rattle.demands.proofs.Refused.{answer-either, number-given, asked-high}
+use Rattle.demands.proofs.Releases.{same-text, same-areas}
+
+-- the number that the sum and the station give
+abbrev lateBy : Sum → Bool → Bool → ℕ
+lateBy s unchecked ours = cond (isOff s && not unchecked) 12 (cond (isWrong s) 7 (cond (not ours) 8 0))
+
+is-seven : (s : Sum) (u o : Bool) → lateBy s u o ≡ 7 → s ≡ Wrong
+is-seven True u true e = absurd (omega (arith, e))
+is-seven True u false e = absurd (omega (arith, e))
+is-seven SwitchedOff true true e = absurd (omega (arith, e))
+is-seven SwitchedOff true false e = absurd (omega (arith, e))
+is-seven SwitchedOff false o e = absurd (omega (arith, e))
+is-seven Wrong u o e = refl
+
+is-twelve : (s : Sum) (u o : Bool) → lateBy s u o ≡ 12 → (s ≡ SwitchedOff) × (u ≡ false)
+is-twelve True u true e = absurd (omega (arith, e))
+is-twelve True u false e = absurd (omega (arith, e))
+is-twelve SwitchedOff true true e = absurd (omega (arith, e))
+is-twelve SwitchedOff true false e = absurd (omega (arith, e))
+is-twelve SwitchedOff false o e = (refl, refl)
+is-twelve Wrong u o e = absurd (omega (arith, e))
+
+untested-not : {s : Sum} → Untested ≡ Said s → ⊥
+untested-not {s} e = let z : _≡_ {A = ℕ} 0 1 = ap tag e in omega (arith, z)
+  where
+    tag : Told → ℕ
+    tag Untested = 0
+    tag (Said s) = 1
+
+-- a call's tests before the sum, with what comes behind them
+abbrev earlyOf : Call → ℕ → ℕ
+earlyOf c = earlyNumber (length (c .sent .reply)) (c .sent .frame) (c .sent .axes) (c .sent .settings) (lengthsOf (c .areas)) (c .areas .journal) (c .areas .kept)
+
+early-of : (c : Call) → firstOf (early c) ≡ earlyOf c 0
+early-of c = early-rows (length (c .sent .reply)) (c .sent .frame) (c .sent .axes) (c .sent .settings) (lengthsOf (c .areas)) (c .areas .journal) (c .areas .kept)
+
+-- what no test before the sum refuses has the number that the sum and the station give it
+late : (c : Call) → firstOf (early c) ≡ 0 → (k : ℕ) → earlyOf c k ≡ k
+late c e k =
+    past-early (length (c .sent .reply)) (c .sent .frame) (c .sent .axes) (c .sent .settings) (lengthsOf (c .areas)) (c .areas .journal) (c .areas .kept)
+    (early-passed (length (c .sent .reply)) (c .sent .frame) (c .sent .axes) (c .sent .settings) (lengthsOf (c .areas)) (c .areas .journal) (c .areas .kept) (sym (early-of c) ∙ e) .0)
+    k
+
+early-silent : (c : Call) → (firstOf (early c) ≡ 0 → ⊥) → silentOf c ≡ firstOf (early c)
+early-silent c n =
+    silent-is c
+    ∙ early-given (length (c .sent .reply)) (c .sent .frame) (c .sent .axes) (c .sent .settings) (lengthsOf (c .areas)) (c .areas .journal) (c .areas .kept) _ (λ z. n (early-of c ∙ z)) .0
+    ∙ sym (early-of c)
+
+-- with '@@' allowed, the number is that of before
+before-is : (c : Call)
+    → silentBefore c
+    ≡ earlyOf c (cond (not (sumPasses (c .sent .settings .release) (c .sent .frame))) 7 (cond (not (stationPasses (c .sent .settings .release) (c .sent .settings .station) (c .sent .frame))) 8 0))
+unfolding earlyRows areaRows
+before-is c = refl
+
+allowed-silent : (c : Call) → c .sent .settings .unchecked ≡ true → silentOf c ≡ silentBefore c
+allowed-silent c u = silent-is c ∙ ap (earlyOf c) (rw (u, and-false (sumOff (c .sent .frame)))) ∙ sym (before-is c)
+
+as-before : AsBefore ours
+as-before c u = go (eqb (silentBefore c) 0) refl
+  where
+    go : (b : Bool) → eqb (silentBefore c) 0 ≡ b
+        → butSum (answerOf c)
+        ≡ cond b (record { number = numberGiven (asked c); text = textOf c (asked c); areas = areasAfter c (asked c) }) (record { number = silentBefore c; text = []; areas = c .areas })
+    go true e = ap butSum (heard-answer c (allowed-silent c u ∙ eqb-true _ _ e))
+    go false e = ap butSum (silent-answer c (silentBefore c) (sym (allowed-silent c u)) (eqb-false _ _ e))
+
+pub contract-as-before : ContractAsBefore
+contract-as-before c r areas′ reply′ u a =
+    let e = as-before c u in
+    record {
+      number-is = a .number-is ∙ ap (λ (b : Before). b .number) e;
+      length-is = a .length-is ∙ ap (λ (b : Before). length (b .text)) e;
+      kept-is = a .kept-is ∙ ap (λ (b : Before). b .areas .kept) e;
+      areas-are = a .areas-are ∙ ap (λ (b : Before). b .areas) e;
+      reply-is = a .reply-is ∙ ap (λ (b : Before). laid (c .sent .reply) 0 (b .text)) e;
+    }
+
+-- the number of what no test before the sum refuses
+late-number : (c : Call) → firstOf (early c) ≡ 0
+    → silentOf c ≡ lateBy (sumSaid (c .sent .settings .release) (c .sent .frame)) (c .sent .settings .unchecked) (stationPasses (c .sent .settings .release) (c .sent .settings .station) (c .sent .frame))
+late-number c e =
+    silent-is c
+    ∙ late c e (frameNumber (c .sent .settings) (c .sent .frame) 0)
+    ∙ sym (frame-rows (c .sent .settings) (c .sent .frame))
+    ∙ frame-by (c .sent .settings) (c .sent .frame) (sumSaid (c .sent .settings .release) (c .sent .frame)) refl
+
+-- a number from 1 to 100 is that of a refusal without a reply, and such a one is the number
+silent-of : (c : Call) (k : ℕ) → 1 ≤ k → k < 101 → answerOf c .number ≡ k → silentOf c ≡ k
+silent-of c k l m =
+    answer-either c (λ (o : Outcome). o .number ≡ k → silentOf c ≡ k)
+    (λ _ e. absurd (let h = asked-high c (λ z. let y : k ≡ 0 = sym e ∙ z in omega (arith, y, l)) in omega (arith, h, e, m)))
+    (λ _ e. e)
+
+number-of : (c : Call) (k : ℕ) → 1 ≤ k → silentOf c ≡ k → answerOf c .number ≡ k
+number-of c k l e = ap (λ (o : Outcome). o .number) (silent-answer c k (sym e) (λ z. omega (arith, z, l)))
+
+-- where '@@' is forbidden
+forbidden-rule : Forbidden ours
+forbidden-rule c o u = (ap (λ (x : Outcome). x .areas) is, ap (λ (x : Outcome). x .text) is, λ z. some (sym (ap (λ (x : Outcome). x .number) is) ∙ z), twelve)
+  where
+    seen : forbidden (c .sent .settings) (c .sent .frame) ≡ true
+    seen = rw (one-of-three 1 (c .sent .frame) .off .1 o, u)
+
+    some : silentOf c ≡ 0 → ⊥
+    some z = true≢false (sym seen ∙ call-passed c z .allowed)
+
+    is : answerOf c ≡ unanswered (toldOf c) (silentOf c) (c .areas)
+    is = silent-answer c (silentOf c) refl some
+
+    twelve : firstOf (early c) ≡ 0 → answerOf c .number ≡ 12
+    twelve e = number-of c 12 (omega arith) (silent-is c ∙ late c e (frameNumber (c .sent .settings) (c .sent .frame) 0) ∙ rw seen)
+
+-- and where it isn't sent
+others-same : OthersSame ours
+others-same c n = go (eqb (silentOf off) 0) refl
+  where
+    off : Call
+    off = allowing false c
+
+    on : Call
+    on = allowing true c
+
+    not-off : sumOff (c .sent .frame) ≡ false
+    not-off = by (sumOff (c .sent .frame)) refl
+      where
+        by : (b : Bool) → sumOff (c .sent .frame) ≡ b → sumOff (c .sent .frame) ≡ false
+        by true e = absurd (n (one-of-three 1 (c .sent .frame) .off .0 e))
+        by false e = e
+
+    same : silentOf off ≡ silentOf on
+    same = silent-is off ∙ ap (earlyOf c) (rw not-off) ∙ sym (silent-is on)
+
+    told : toldOf off ≡ toldOf on
+    told = same-told-after (c .sent .settings .release) (c .sent .frame) (c .sent .frame) (early-of off ∙ sym (early-of on)) refl
+
+    go : (b : Bool) → eqb (silentOf off) 0 ≡ b → answerOf off ≡ answerOf on
+    go true e =
+        let z = eqb-true _ _ e in
+        let r = c .sent .settings .release in
+        let t = same-text c r r false true (asked c) in
+        let s = same-areas c r r false true (asked c) in
+        heard-answer off z ∙ (λ i. record { number = numberGiven (asked c); text = t i; areas = s i; sum = told i }) ∙ sym (heard-answer on (sym same ∙ z))
+    go false e =
+        let z = eqb-false _ _ e in
+        silent-answer off (silentOf off) refl z
+        ∙ ap (λ (t : Told). unanswered t (silentOf off) (c .areas)) told
+        ∙ sym (silent-answer on (silentOf off) same z)
+
+-- what is told is what the tests tell
+told-is : (c : Call) → answerOf c .sum ≡ toldOf c
+told-is c = answer-either c (λ (o : Outcome). o .sum ≡ toldOf c) (λ _. refl) (λ _. refl)
+
+-- the numbers of the tests before the sum, and of those from it on
+early-listed : (c : Call) → (firstOf (early c) ≡ 0 → ⊥) → among (firstOf (early c)) earlyNumbers ≡ true
+unfolding earlyRows areaRows
+early-listed c =
+    number-given (λ (k : ℕ). (k ≡ 0 → ⊥) → among k earlyNumbers ≡ true) (early c) (λ n. absurd (n refl))
+    (λ _. refl, (λ _. refl, (λ _. refl, (λ _. refl, (λ _. refl, (λ _. refl, (λ _. refl, (λ _. refl, tt))))))))
+
+asked-late : (held : Held) (fitted release : ℕ) (n : Named) (content : List ℕ) → among (firstOf (askedRows held fitted release n content)) earlyNumbers ≡ false
+unfolding askedRows
+asked-late held fitted release Unknown content = refl
+asked-late held fitted release (Known m) content =
+    number-given (λ (k : ℕ). among k earlyNumbers ≡ false) (askedRows held fitted release (Known m) content) refl (refl, (refl, (refl, (refl, (refl, (refl, (refl, tt)))))))
+
+late-listed : (c : Call) → firstOf (early c) ≡ 0 → among (answerOf c .number) earlyNumbers ≡ false
+unfolding frameRows
+late-listed c e =
+    answer-either c (λ (o : Outcome). among (o .number) earlyNumbers ≡ false)
+    (λ _.
+    rw (asked-number c) (asked-late (held c) (c .sent .settings .fitted) (c .sent .settings .release) (messageBy (c .sent)) (contentIn (c .sent .frame))))
+    (λ _.
+    rw (silent-is c ∙ late c e (frameNumber (c .sent .settings) (c .sent .frame) 0))
+    (number-given (λ (k : ℕ). among k earlyNumbers ≡ false) (frameRows (c .sent .settings) (c .sent .frame)) refl (refl, (refl, (refl, tt)))))
+
+early-some : (c : Call) → (firstOf (early c) ≡ 0 → ⊥) → among (answerOf c .number) earlyNumbers ≡ true
+early-some c n =
+    let z = early-silent c n in
+    let is : answerOf c .number ≡ firstOf (early c) = ap (λ (o : Outcome). o .number) (silent-answer c (firstOf (early c)) (sym z) n) in
+    rw is (early-listed c n)
+
+-- so by its number it was tested, or not
+was-tested : (c : Call) → among (answerOf c .number) earlyNumbers ≡ false → firstOf (early c) ≡ 0
+was-tested c f = go (eqb (firstOf (early c)) 0) refl
+  where
+    go : (b : Bool) → eqb (firstOf (early c)) 0 ≡ b → firstOf (early c) ≡ 0
+    go true e = eqb-true _ _ e
+    go false e = absurd (true≢false (sym (early-some c (eqb-false _ _ e)) ∙ f))
+
+-- what is told is one of three
+abbrev saidIn : Told → Sum
+saidIn Untested = True
+saidIn (Said s) = s
+
+module _ (c : Call) where
+  abbrev said : Sum
+  said = sumSaid (c .sent .settings .release) (c .sent .frame)
+
+  abbrev unchecked : Bool
+  unchecked = c .sent .settings .unchecked
+
+  abbrev to-us : Bool
+  to-us = stationPasses (c .sent .settings .release) (c .sent .settings .station) (c .sent .frame)
+
+  tested : firstOf (early c) ≡ 0 → answerOf c .sum ≡ Said said
+  tested e = told-is c ∙ told-said (c .sent .settings .release) (c .sent .frame) e
+
+  -- where it is told, it was tested
+  told-tested : (s : Sum) → answerOf c .sum ≡ Said s → (firstOf (early c) ≡ 0) × (said ≡ s)
+  told-tested s e = go (eqb (firstOf (early c)) 0) refl
+    where
+      go : (b : Bool) → eqb (firstOf (early c)) 0 ≡ b → (firstOf (early c) ≡ 0) × (said ≡ s)
+      go true q = let z = eqb-true _ _ q in (z, ap saidIn (sym (tested z) ∙ e))
+      go false q =
+          let u = told-untested (c .sent .settings .release) (c .sent .frame) (eqb-false _ _ q) in
+          absurd (untested-not (sym u ∙ sym (told-is c) ∙ e))
+
+  sum-told : SumTold c (answerOf c)
+  sum-told =
+      record {
+        untested = λ t. told-is c ∙ told-untested (c .sent .settings .release) (c .sent .frame) (λ z. true≢false (sym t ∙ late-listed c z));
+        tested = λ f. tested (was-tested c f);
+        used-off = λ f.
+            let o = one-of-three (c .sent .settings .release) (c .sent .frame) in
+            let z = was-tested c f in
+            (λ e. o .off .0 (o .says-off .0 (ap saidIn (sym (tested z) ∙ e))), λ q. tested z ∙ ap Said (o .says-off .1 (o .off .1 q)));
+        seven = (
+          λ e. let z = was-tested c (rw e) in tested z ∙ ap Said (is-seven said unchecked to-us (sym (late-number c z) ∙ silent-of c 7 (omega arith) (omega arith) e)),
+          λ e. let t = told-tested Wrong e in number-of c 7 (omega arith) (late-number c (t .0) ∙ rw (t .1)),
+        );
+        twelve = (
+          λ e.
+              let z = was-tested c (rw e) in
+              let t = is-twelve said unchecked to-us (sym (late-number c z) ∙ silent-of c 12 (omega arith) (omega arith) e) in
+              (tested z ∙ ap Said (t .0), t .1),
+          λ e. let t = told-tested SwitchedOff (e .0) in number-of c 12 (omega arith) (late-number c (t .0) ∙ rw (t .1, e .1)),
+        );
+      }
+
+pub switched-off : SwitchedOffRule ours
+switched-off = record { as-before = as-before; forbidden = forbidden-rule; others-same = others-same; sum-told = sum-told }
