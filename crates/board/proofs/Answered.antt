@@ -2,10 +2,10 @@
 use Prim.Native.Nat.{ℕ}
 use mathlib.Core.Path.{_≡_, refl, ap, _∙_}
 use mathlib.Core.List.{List}
-use Rattle.calls.specs.Calls.{Areas, Call}
+use Rattle.calls.specs.Calls.{Areas, Call, sumCode}
 use Rattle.link.specs.declared.Answered.{Answered}
 use Rattle.link.specs.Contract.{Answers}
-use Rattle.board.specs.Calls.{sumCode, CabinetAnswers}
+use Rattle.board.specs.Calls.{CabinetAnswers}
 
 pub coded : {c : Call} {r : Answered} {areas′ : Areas} {reply′ : List ℕ} {code : ℕ} → code ≡ sumCode (r .sum) → Answers c r areas′ reply′
     → CabinetAnswers c (r .number) (r .length) (r .kept .used) code areas′ reply′

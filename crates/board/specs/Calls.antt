@@ -4,7 +4,6 @@ use mathlib.Core.Path.{_≡_}
 use mathlib.Core.Bool.{not}
 use mathlib.Core.List.{List}
 use lib.Dec.{eqb}
-use Rattle.frames.specs.declared.checks.Sum.the-variants.{True, SwitchedOff, Wrong}
 use Rattle.finder.specs.declared.Found.{Found}
 use Rattle.finder.specs.declared.Found.the-variants.{Frame, Nothing, Wait, TooLong}
 use Rattle.finder.specs.Find.{dropOf}
@@ -12,8 +11,7 @@ use Rattle.kinds.specs.declared.Firsts.{Firsts}
 use Rattle.calls.specs.declared.Settings.{Settings}
 use Rattle.calls.specs.declared.Kept.{Kept}
 use Rattle.calls.specs.declared.Told.{Told}
-use Rattle.calls.specs.declared.Told.the-variants.{Untested, Said}
-use Rattle.calls.specs.Calls.{Areas, Call}
+use Rattle.calls.specs.Calls.{Areas, Call, sumCode}
 use Rattle.link.specs.declared.Answered.{Answered}
 use Rattle.link.specs.declared.Back.{Back}
 use Rattle.link.specs.Answer.{answerOf}
@@ -59,13 +57,6 @@ firstsOf integer flag = record { integer = integer; flag = flag }
 
 abbrev pub answeredOf : ℕ → ℕ → ℕ → Told → Answered
 answeredOf number length used told = record { number = number; length = length; kept = keptOf used; sum = told }
-
--- what is told of the sum: 0 untested, 1 true, 2 switched off, 3 wrong (02, f)
-abbrev pub sumCode : Told → ℕ
-sumCode Untested = 0
-sumCode (Said True) = 1
-sumCode (Said SwitchedOff) = 2
-sumCode (Said Wrong) = 3
 
 -- what `cabinet_answer` gives of a call: the answer, with the code of what it tells
 pub record CabinetAnswers (c : Call) (number length used sum : ℕ) (areas′ : Areas) (reply′ : List ℕ) : Type 0 where

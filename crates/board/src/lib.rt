@@ -2,20 +2,18 @@
 use axes::read_axes;
 use calls::Kept;
 use calls::Settings;
-use calls::Told;
+use calls::sum_code;
 use finder::Found;
 use finder::find;
 use finder::frame_in;
-use frames::checks::Sum;
 use kinds::Firsts;
 use link::answer;
 use link::step_back;
-ghost use mathlib.Core.Path.{_≡_};
 ghost use Rattle.finder.specs.Find.{findIn};
 ghost use Rattle.axes.specs.Axes.{axesIn};
 ghost use Rattle.calls.specs.Calls.{areasOf, callOf};
 ghost use Rattle.link.specs.Contract.{StepsBack};
-ghost use Rattle.board.specs.Calls.{Receives, settingsOf, keptOf, firstsOf, sumCode, CabinetAnswers, backedOf};
+ghost use Rattle.board.specs.Calls.{Receives, settingsOf, keptOf, firstsOf, CabinetAnswers, backedOf};
 
 // 0 a frame, 1 nothing, 2 wait, 3 too long.
 #[no_mangle]
@@ -49,20 +47,6 @@ pub extern "C" fn cabinet_receive(
             *drop = d;
             3
         }
-    }
-}
-
-// 0 untested, 1 true, 2 switched off, 3 wrong.
-fn sum_code(told: Told) -> u8
-    ensures { λ r. ⌜ r ≡ sumCode told ⌝ }
-{
-    match told {
-        Told::Untested => 0,
-        Told::Said(sum) => match sum {
-            Sum::True => 1,
-            Sum::SwitchedOff => 2,
-            Sum::Wrong => 3,
-        },
     }
 }
 

@@ -12,7 +12,9 @@ use Rattle.journal.specs.Journal.{Entry, encodes, entriesIn, added, areaOf, las
 use Rattle.axes.specs.declared.Axes.{Axes}
 use Rattle.calls.specs.declared.Settings.{Settings}
 use Rattle.calls.specs.declared.Kept.{Kept}
+use Rattle.frames.specs.declared.checks.Sum.the-variants.{True, SwitchedOff, Wrong}
 use Rattle.calls.specs.declared.Told.{Told}
+use Rattle.calls.specs.declared.Told.the-variants.{Untested, Said}
 
 -- the areas that are used throughout, with the numbers that are kept beside them and the first numbers that settings give (02, a)
 pub record Areas : Type 0 where
@@ -41,6 +43,13 @@ pub record Outcome : Type 0 where
   pub text : List ℕ
   pub areas : Areas
   pub sum : Told
+
+-- the number of what is told of the sum: 0 untested, 1 true, 2 switched off, 3 wrong (02, f)
+abbrev pub sumCode : Told → ℕ
+sumCode Untested = 0
+sumCode (Said True) = 1
+sumCode (Said SwitchedOff) = 2
+sumCode (Said Wrong) = 3
 
 -- areas, what is sent, and a call, as they are handed over
 abbrev pub areasOf : List ℕ → List ℕ → List ℕ → List ℕ → List ℕ → Kept → Firsts → Areas

@@ -11,10 +11,8 @@ use lib.Seq.{length-take-le, take-all, take-take, take-at, drop-at, drop-drop}
 use borrow.Author.Tests.{le-ltb, le-leb, eq-eqb, ne-eqb}
 use Rattle.digits.specs.Digits.{capitals, digitsOf, admitted, numberOf}
 use Rattle.digits.proofs.Inverse.{inverse, all-append}
-use Rattle.digits.proofs.Bools.{was-not}
-use Rattle.frames.specs.Frame.{normal, replyOf, sumPasses, sumSaid}
+use Rattle.frames.specs.Frame.{normal, replyOf, sumSaid, isWrong}
 use Rattle.frames.proofs.Bools.{and-false}
-use Rattle.frames.proofs.Three.{isWrong, which}
 use Rattle.kinds.specs.declared.Held.{Held}
 use Rattle.points.proofs.Parts.{all-take}
 use Rattle.table.specs.declared.Follows.{Follows}
@@ -96,9 +94,9 @@ module _ (a : Areas) (h : Sent) (frame : List ℕ) where
 
   -- a true SC passes, and '@@' where it is allowed
   sum-passes : (checked : Bool) → allowed h checked ≡ true → sumSaid (h .settings .release) frame ≡ summedBy checked
-      → (forbidden (h .settings) frame ≡ false) × (sumPasses (h .settings .release) frame ≡ true)
-  sum-passes true g e = let w = which (h .settings .release) frame in (rw (w .0, e), was-not (w .1 ∙ ap isWrong e))
-  sum-passes false g e = let w = which (h .settings .release) frame in (rw (w .0, e, g), was-not (w .1 ∙ ap isWrong e))
+      → (forbidden (h .settings) frame ≡ false) × (isWrong (sumSaid (h .settings .release) frame) ≡ false)
+  sum-passes true g e = (rw e, ap isWrong e)
+  sum-passes false g e = (rw (e, g), ap isWrong e)
 
   -- a command of its station passes every test before a reply
   pub heard-there : (checked : Bool) (asks : List ℕ) → Host h → allowed h checked ≡ true → Open a

@@ -21,6 +21,7 @@ pub mod Lasting
 pub mod Survived
 pub mod TestCalls
 pub mod Capitals
+pub mod Alike
 pub mod Releases
 pub mod SwitchedOff
 pub mod Demands

@@ -22,7 +22,7 @@ use Rattle.messages.specs.Rows.{Row, firstOf}
 use Rattle.table.specs.Table.{messageOf}
 use Rattle.messages.specs.Asked.{askedRows, numberGiven}
 use Rattle.calls.specs.Calls.{Areas, Call, Outcome, lengthsOf}
-use Rattle.refusals.specs.Refusals.{areaRows, earlyRows, frameRows, silentRows, silent, silentOf, toldOf, backRows, backRefusalOf}
+use Rattle.refusals.specs.Refusals.{areaRows, earlyRows, lateRows, silent, silentOf, toldOf, backRows, backRefusalOf}
 use Rattle.link.specs.Answer.{held, asked, areasAfter, textOf, unanswered, answerOf, backOf}
 use Rattle.link.proofs.Answering.{frame-number, asked-number, heard-number}
 use Rattle.demands.specs.Refused.{OneNumber, frameNumbers, backNumbers, among, NoOtherNumber, ChangesNothing, OneReply, ErrorsAgree, asksWrite, QueryChangesNothing}
@@ -34,6 +34,10 @@ pub answer-either : (c : Call) (P : Outcome → Type 0)
     → P (answerOf c)
 unfolding answerOf
 answer-either c P f g = either P (eqb (silentOf c) 0) (λ e. f (eqb-true _ _ e)) (λ e. g (eqb-false _ _ e))
+
+-- what is told of the sum is what the tests tell
+pub told-is : (c : Call) → answerOf c .sum ≡ toldOf c
+told-is c = answer-either c (λ (o : Outcome). o .sum ≡ toldOf c) (λ _. refl) (λ _. refl)
 
 back-number : (a : Areas) → backOf a .number ≡ backRefusalOf a
 unfolding backOf
@@ -68,7 +72,7 @@ number-given P (r ∷ rs) z h = either P (r .holds) (λ _. h .0) (λ _. number-g
 
 -- the numbers of a frame: to 13 without a reply, and from 101 on
 pub silent-low : (c : Call) → silentOf c ≤ 13
-unfolding silentOf silentRows earlyRows areaRows frameRows
+unfolding silentOf earlyRows areaRows lateRows
 silent-low c =
     number-given (λ (k : ℕ). k ≤ 13) (silent c) (omega arith)
     (omega arith, (omega arith, (omega arith, (omega arith, (omega arith, (omega arith, (omega arith, (omega arith, (omega arith, (omega arith, (omega arith, tt)))))))))))
@@ -92,7 +96,7 @@ abbrev Listed : List ℕ → ℕ → Type 0
 Listed ns n = among n ns ≡ true
 
 silent-listed : (c : Call) → Listed frameNumbers (silentOf c)
-unfolding silentOf silentRows earlyRows areaRows frameRows
+unfolding silentOf earlyRows areaRows lateRows
 silent-listed c = number-given (Listed frameNumbers) (silent c) refl (refl, (refl, (refl, (refl, (refl, (refl, (refl, (refl, (refl, (refl, (refl, tt)))))))))))
 
 asked-listed : (held : Held) (fitted release : ℕ) (n : Named) (content : List ℕ) → Listed frameNumbers (firstOf (askedRows held fitted release n content))

@@ -1,29 +1,26 @@
 -- Demand 2 of cabinet releases.
-use Prim.Native.Nat.{ℕ, _+_, _-_, _≤_}
+use Prim.Native.Nat.{ℕ, _-_, _≤_}
 use mathlib.Core.Path.{_≡_, refl, sym, ap, ap₂, _∙_, subst}
 use mathlib.Core.Bool.{Bool, true, false, cond, not, _&&_, _||_, true≢false}
 use mathlib.Core.Logic.{_⊎_, inl, inr, ⊎-elim, _↔_}
 use mathlib.Core.List.{List, [], _∷_}
 use native.Mathlib.Omega.{arith}
-use lib.Bits.{bitAnd}
-use lib.Dec.{eqb, ltb, leb}
-use lib.ListN.{length, take, drop, getD, length-drop}
-use lib.Seq.{length-take-le}
-use borrow.Author.Tests.{eqb-true, eqb-false, ltb-true, ltb-false}
+use lib.Dec.{eqb}
+use lib.ListN.{length, take, drop}
 use Rattle.digits.specs.Digits.{capital, capitals, digitsOf, admitted, numberOf}
 use Rattle.digits.specs.Laid.{laid}
 use Rattle.digits.specs.Text.{text}
 use Rattle.digits.proofs.Inverse.{inverse, rules, and-left, and-right}
-use Rattle.digits.proofs.Bools.{was-not}
 use Rattle.digits.proofs.Capitals.{length-capitals, take-capitals, drop-capitals}
-use Rattle.frames.specs.declared.checks.Sum.the-variants.{SwitchedOff}
-use Rattle.frames.specs.Frame.{command, normal, replyOf, stationIn, messageIn, contentIn, beforeSC, scIn, scOf, lowByte, shaped, saysNumber, sumTrue, sumOff, sumPasses, sumSaid, stationPasses}
+use Rattle.frames.specs.declared.checks.Sum.{Sum}
+use Rattle.frames.specs.declared.checks.Sum.the-variants.{True, SwitchedOff, Wrong}
+use Rattle.frames.specs.Frame.{stationIn, messageIn, contentIn, beforeSC, scIn, scOf, lowByte, shaped, saysNumber, sumTrue, sumOff, sumSaid, isOff, isWrong, stationPasses}
 use Rattle.frames.proofs.Bools.{and-false}
 use Rattle.frames.proofs.Promised.{true-sc}
-use Rattle.frames.proofs.Three.{isOff, isWrong, said-true, said-off, which, one-of-three}
+use Rattle.frames.proofs.Three.{said-true, said-off, one-of-three}
 use Rattle.frames.proofs.TestID.{is200, by-message, test-id}
 use Rattle.kinds.specs.declared.Held.{Held}
-use Rattle.kinds.specs.Kinds.{kindOf, heldIn}
+use Rattle.kinds.specs.Kinds.{heldIn}
 use Rattle.pairs.proofs.Paired.{same-bytes}
 use Rattle.points.proofs.Capitals.{same-slots}
 use Rattle.table.specs.declared.Action.{Action}
@@ -33,27 +30,26 @@ use Rattle.table.specs.declared.Named.{Named}
 use Rattle.table.specs.declared.Named.the-variants.{Known, Unknown}
 use Rattle.table.specs.Table.{messageNumbered, messageOf, restIn, anyBytes}
 use Rattle.messages.specs.declared.Asked.{Asked}
-use Rattle.messages.specs.declared.Asked.the-variants.{Refused, Order}
+use Rattle.messages.specs.declared.Asked.the-variants.{Order}
 use Rattle.messages.specs.Asked.{notDigits, askedOf, judged, numberGiven}
 use Rattle.messages.proofs.Judged.{Right, told, ordered, as-admitted}
 use Rattle.messages.proofs.Capitals.{same-rest, same-judged}
-use Rattle.calls.specs.declared.Told.{Told}
 use Rattle.calls.specs.declared.Told.the-variants.{Said}
-use Rattle.calls.specs.Calls.{Areas, Sent, Call, Outcome, callOf, lengthsOf, areaIn, written}
-use Rattle.refusals.specs.Refusals.{axesFit, releaseFits, silentOf, toldOf}
-use Rattle.refusals.proofs.Rows.{areaNumber, frameNumber, earlyNumber, early-rows, silent-is, past-silent, call-passed, heard-told, same-told-after}
+use Rattle.calls.specs.Calls.{Areas, Sent, Call, Outcome, lengthsOf}
+use Rattle.refusals.specs.Refusals.{releaseFits, silentOf, toldOf}
+use Rattle.refusals.proofs.Rows.{silent-is, past-silent, call-passed, heard-told}
 use Rattle.refusals.proofs.Tested.{shaped-long}
-use Rattle.queries.specs.Replies.{sameText, axesText}
-use Rattle.orders.specs.Orders.{rest, writes, newBytes, saidBy}
-use Rattle.link.specs.Answer.{held, asked, textOf, areasAfter, unanswered, answerOf}
-use Rattle.link.proofs.Answering.{silent-answer, heard-answer, accepted}
+use Rattle.orders.specs.Orders.{rest, newBytes}
+use Rattle.link.specs.Answer.{held, asked, textOf, areasAfter, answerOf}
+use Rattle.link.proofs.Answering.{heard-answer, accepted}
 use Rattle.demands.specs.History.{ours}
 use Rattle.demands.specs.Reading.{before, frameWith, commandOf, asking}
 use Rattle.demands.specs.TestCalls.{handed}
 use Rattle.demands.specs.Releases.{under, CapitalsOnly, EitherSize, Either, SameUnderTwo, Releases, SameAnswer}
 use Rattle.demands.proofs.Sole.{one-answer}
 use Rattle.demands.proofs.Capitals.{id-200, known-id, no-letters, not-said-back, replies-in-capitals}
-use Rattle.demands.proofs.Commands.{testFits, begun, framed, framed-long, is-message, shape-is, is-content, too-short, is-sc, is-begun, high, low, summedBy, off, summed, two-bytes, messageNamed, message-of}
+use Rattle.demands.proofs.Alike.{same-text, same-areas, Alike, by-sum, same-answers, long-enough, same-shape, done-alike, text-alike}
+use Rattle.demands.proofs.Commands.{testFits, begun, framed, framed-long, is-message, is-content, is-sc, is-begun, high, low, summedBy, off, summed, two-bytes, messageNamed, message-of}
 
 -- what stands in a field that says a number is admitted, and what passes under release 1 passes under release 2
 module _ (field : List ℕ) (n : ℕ) where
@@ -63,28 +59,26 @@ module _ (field : List ℕ) (n : ℕ) where
   says-more : saysNumber 1 field n ≡ true → saysNumber 2 field n ≡ true
   says-more e = rw (rules field .least 2 (says-admitted 1 e)) (and-right (admitted 1 field) (eqb (numberOf field) n) e)
 
--- an SC that passed: true, or '@@'
+-- an SC that isn't wrong: true, or '@@'
 module _ (frame : List ℕ) where
-  passed-by : (release : ℕ) → sumPasses release frame ≡ true → (sumTrue release frame ≡ true) ⊎ (sumOff frame ≡ true)
-  unfolding sumPasses
-  passed-by release e = go (sumTrue release frame) refl e
+  passed-by : (release : ℕ) → isWrong (sumSaid release frame) ≡ false → (sumTrue release frame ≡ true) ⊎ (sumOff frame ≡ true)
+  unfolding sumSaid
+  passed-by release e = go (sumTrue release frame) (sumOff frame) e
     where
-      go : (b : Bool) → sumTrue release frame ≡ b → b || sumOff frame ≡ true → (sumTrue release frame ≡ true) ⊎ (sumOff frame ≡ true)
-      go true f e = inl f
-      go false f e = inr e
+      go : (t o : Bool) → isWrong (cond t True (cond o SwitchedOff Wrong)) ≡ false → (t ≡ true) ⊎ (o ≡ true)
+      go true o e = inl refl
+      go false true e = inr refl
+      go false false e = absurd (true≢false e)
 
   -- and of it the sum test says the same under release 2
   true-more : sumTrue 1 frame ≡ true → sumTrue 2 frame ≡ true
   unfolding sumTrue
   true-more t = says-more (scIn frame) (lowByte (beforeSC frame)) t
 
-  said-more : sumPasses 1 frame ≡ true → sumSaid 2 frame ≡ sumSaid 1 frame
+  said-more : isWrong (sumSaid 1 frame) ≡ false → sumSaid 2 frame ≡ sumSaid 1 frame
   said-more e = ⊎-elim (λ t. said-true 2 frame (true-more t) ∙ sym (said-true 1 frame t)) (λ o. said-off 2 frame o ∙ sym (said-off 1 frame o)) (passed-by 1 e)
 
-  sum-more : sumPasses 1 frame ≡ true → sumPasses 2 frame ≡ true
-  sum-more e = was-not (which 2 frame .1 ∙ ap isWrong (said-more e) ∙ sym (which 1 frame .1) ∙ ap not e)
-
-  sc-plain : sumPasses 1 frame ≡ true → capitals (scIn frame) ≡ scIn frame
+  sc-plain : isWrong (sumSaid 1 frame) ≡ false → capitals (scIn frame) ≡ scIn frame
   unfolding sumTrue capital
   sc-plain e =
       ⊎-elim (λ t. rules (scIn frame) .capitals-only (says-admitted (scIn frame) (lowByte (beforeSC frame)) 1 t))
@@ -139,34 +133,6 @@ right-more h fitted m s r =
       type = r .type;
     }
 
--- what an order says and leaves doesn't ask for the release, nor whether '@@' is allowed
-module _ (c : Call) (release release′ : ℕ) (unchecked unchecked′ : Bool) where
-  abbrev settled : ℕ → Bool → Call
-  settled r u =
-      let s = c .sent .settings in
-      callOf (c .sent .frame) (c .sent .axes) (record { station = s .station; release = r; unchecked = u; fitted = s .fitted }) (c .sent .reply) (c .areas)
-
-  same-said : (does : Action) (m : Message) (start count : ℕ) (area : List ℕ)
-      → saidBy does (held c) (settled release unchecked .sent) m start count area ≡ saidBy does (held c) (settled release′ unchecked′ .sent) m start count area
-  same-said SayBack m start count area = refl
-  same-said CountPoints m start count area = refl
-  same-said ListPoints m start count area = refl
-  same-said ReadRun m start count area = refl
-  same-said AxisStatus m start count area = refl
-  same-said WritePoints m start count area = refl
-  same-said ClearRun m start count area = refl
-  same-said ChangeRun m start count area = refl
-  same-said ShowFlags m start count area = refl
-  same-said SetFlag m start count area = refl
-
-  pub same-text : (x : Asked) → textOf (settled release unchecked) x ≡ textOf (settled release′ unchecked′) x
-  same-text (Refused k) = refl
-  same-text (Order m start count) = ap (replyOf normal (c .sent .settings .station)) (same-said (m .does) m start count (areaIn (m .tag) (c .areas)))
-
-  pub same-areas : (x : Asked) → areasAfter (settled release unchecked) x ≡ areasAfter (settled release′ unchecked′) x
-  same-areas (Refused k) = refl
-  same-areas (Order m start count) = refl
-
 -- "Any frame release 1 accepts, release 2 answers with the same bytes"
 module _ (c : Call) (n : answerOf (under 1 c) .number ≡ 0) where
   abbrev frame : List ℕ
@@ -193,8 +159,8 @@ module _ (c : Call) (n : answerOf (under 1 c) .number ≡ 0) where
               release-fits = refl;
               shape = p .early .shape;
             };
-        allowed = p .allowed;
-        sum = sum-more frame (p .sum);
+        allowed = ap (λ (s : Sum). isOff s && not (c .sent .settings .unchecked)) (said-more frame (p .sum)) ∙ p .allowed;
+        sum = ap isWrong (said-more frame (p .sum)) ∙ p .sum;
         station = says-more (stationIn frame) (c .sent .settings .station) (p .station);
       })
       0
@@ -244,70 +210,6 @@ same-answer c r r′ a a′ reply reply′ x y n =
     })
     x
 
--- two frames over the same areas, from the same host, that the tests of a frame pass or refuse alike, and that ask for the same where they are heard
-module _ (a : Areas) (h : Sent) (f g : List ℕ) where
-  abbrev c : Call
-  c = handed a h f
-
-  abbrev d : Call
-  d = handed a h g
-
-  pub record Alike : Type 0 where
-    pub shape : shaped f ≡ shaped g
-    pub sum : sumSaid (h .settings .release) f ≡ sumSaid (h .settings .release) g
-    pub station : stationPasses (h .settings .release) (h .settings .station) f ≡ stationPasses (h .settings .release) (h .settings .station) g
-    pub asks : shaped f ≡ true → asked c ≡ asked d
-    pub does : shaped f ≡ true → (x : Asked) → asked d ≡ x → (textOf c x ≡ textOf d x) × (areasAfter c x ≡ areasAfter d x)
-
-  pub same-answers : Alike → answerOf c ≡ answerOf d
-  same-answers k = go (eqb (silentOf c) 0) refl
-    where
-      -- the tests before the sum, with what comes behind them
-      early-same : (n : ℕ)
-          → earlyNumber (length (h .reply)) f (h .axes) (h .settings) (lengthsOf a) (a .journal) (a .kept) n
-          ≡ earlyNumber (length (h .reply)) g (h .axes) (h .settings) (lengthsOf a) (a .journal) (a .kept) n
-      early-same n =
-          λ i.
-          cond (ltb (length (h .reply)) 1024) 1
-          (areaNumber (lengthsOf a) (a .journal) (a .kept)
-          (cond (not (axesFit (h .axes) (h .settings .fitted))) 5 (cond (not (releaseFits (h .settings .release))) 13 (cond (not (k .shape i)) 6 n))))
-
-      frame-same : frameNumber (h .settings) f 0 ≡ frameNumber (h .settings) g 0
-      frame-same =
-          let off = which (h .settings .release) f .0 ∙ ap isOff (k .sum) ∙ sym (which (h .settings .release) g .0) in
-          let wrong = which (h .settings .release) f .1 ∙ ap isWrong (k .sum) ∙ sym (which (h .settings .release) g .1) in
-          λ i. cond (off i && not (h .settings .unchecked)) 12 (cond (wrong i) 7 (cond (not (k .station i)) 8 0))
-
-      silent-same : silentOf c ≡ silentOf d
-      silent-same =
-          silent-is c
-          ∙ ap (earlyNumber (length (h .reply)) f (h .axes) (h .settings) (lengthsOf a) (a .journal) (a .kept)) frame-same
-          ∙ early-same (frameNumber (h .settings) g 0)
-          ∙ sym (silent-is d)
-
-      told-same : toldOf c ≡ toldOf d
-      told-same =
-          let e =
-          early-rows (length (h .reply)) f (h .axes) (h .settings) (lengthsOf a) (a .journal) (a .kept)
-          ∙ early-same 0
-          ∙ sym (early-rows (length (h .reply)) g (h .axes) (h .settings) (lengthsOf a) (a .journal) (a .kept)) in
-          same-told-after (h .settings .release) f g e (k .sum)
-
-      go : (b : Bool) → eqb (silentOf c) 0 ≡ b → answerOf c ≡ answerOf d
-      go true e =
-          let z = eqb-true _ _ e in
-          let s = call-passed c z .early .shape in
-          let w = k .does s (asked d) refl in
-          heard-answer c z
-          ∙ ap (λ (x : Asked). record { number = numberGiven x; text = textOf c x; areas = areasAfter c x; sum = toldOf c }) (k .asks s)
-          ∙ (λ i. record { number = numberGiven (asked d); text = w .0 i; areas = w .1 i; sum = told-same i })
-          ∙ sym (heard-answer d (sym silent-same ∙ z))
-      go false e =
-          let z = eqb-false _ _ e in
-          silent-answer c (silentOf c) refl z
-          ∙ ap (λ (t : Told). unanswered t (silentOf c) a) told-same
-          ∙ sym (silent-answer d (silentOf c) silent-same z)
-
 -- a text is a 200H's, or not; '200' has no letters
 by-id : (said : List ℕ) → (is200 (take 3 said) ≡ true) ↔ (take 3 said ≡ text "200")
 by-id said =
@@ -333,27 +235,6 @@ other-fits said other = go (is200 (take 3 said)) refl
 other-capitals : (said : List ℕ) → (take 3 said ≡ text "200" → ⊥) → take 3 (capitals said) ≡ text "200" → ⊥
 other-capitals said other e = other (no-letters (take 3 said) (sym (take-capitals 3 said) ∙ e))
 
--- a frame that is shaped says three bytes at least
-long-enough : (x y : ℕ) (said sc : List ℕ) → length sc ≡ 2 → shaped (framed x y said sc) ≡ true → 3 ≤ length said
-long-enough x y said sc two s = go (ltb (length said) 3) refl
-  where
-    go : (b : Bool) → ltb (length said) 3 ≡ b → 3 ≤ length said
-    go true e = absurd (true≢false (sym s ∙ too-short x y said sc two (ltb-true _ _ e)))
-    go false e = ltb-false _ _ e
-
--- texts as long as each other, and both fit or don't as a test call's: their frames are shaped or not alike
-same-shape : (x y x′ y′ : ℕ) (said said′ sc sc′ : List ℕ) → length sc ≡ 2 → length sc′ ≡ 2 → length said ≡ length said′ → testFits said ≡ testFits said′
-    → shaped (framed x y said sc) ≡ shaped (framed x′ y′ said′ sc′)
-same-shape x y x′ y′ said said′ sc sc′ two two′ l t = go (ltb (length said) 3) refl
-  where
-    go : (b : Bool) → ltb (length said) 3 ≡ b → shaped (framed x y said sc) ≡ shaped (framed x′ y′ said′ sc′)
-    go true e =
-        let s = ltb-true _ _ e in
-        too-short x y said sc two s ∙ sym (too-short x′ y′ said′ sc′ two′ (omega (arith, s, l)))
-    go false e =
-        let s = ltb-false _ _ e in
-        shape-is x y said sc two s ∙ ap₂ (λ (n : ℕ) (b : Bool). leb (n + 7) 1023 && b) l t ∙ sym (shape-is x′ y′ said′ sc′ two′ (omega (arith, s, l)))
-
 -- an ID in capitals names the same
 same-named : (id : List ℕ) → messageNamed 2 (capitals id) ≡ messageNamed 2 id
 same-named id = ap₂ (λ (b : Bool) (n : ℕ). cond b (messageNumbered n) Unknown) (rules id .either 2) (rules id .same-number)
@@ -370,37 +251,6 @@ same-new ClearRun unit count rest = refl
 same-new ChangeRun unit count rest = same-bytes rest
 same-new ShowFlags unit count rest = refl
 same-new SetFlag unit count rest = ap (λ (n : ℕ). n ∷ []) (rules rest .same-number)
-
--- what an order says, where what follows the fields is the same, or where its number is and it isn't a 200H's
-said-alike : (a : Areas) (h : Sent) (f g : List ℕ) (does : Action) (m : Message) (start count : ℕ) (area : List ℕ)
-    → numberOf (rest (handed a h f .sent) m) ≡ numberOf (rest (handed a h g .sent) m) → (does ≡ SayBack → rest (handed a h f .sent) m ≡ rest (handed a h g .sent) m)
-    → saidBy does (held (handed a h f)) (handed a h f .sent) m start count area ≡ saidBy does (held (handed a h g)) (handed a h g .sent) m start count area
-said-alike a h f g SayBack m start count area n r = ap (sameText m) (r refl)
-said-alike a h f g CountPoints m start count area n r = refl
-said-alike a h f g ListPoints m start count area n r = refl
-said-alike a h f g ReadRun m start count area n r = refl
-said-alike a h f g AxisStatus m start count area n r = ap (λ (k : ℕ). axesText m (bitAnd k (h .settings .fitted)) (h .axes .records)) n
-said-alike a h f g WritePoints m start count area n r = refl
-said-alike a h f g ClearRun m start count area n r = refl
-said-alike a h f g ChangeRun m start count area n r = refl
-said-alike a h f g ShowFlags m start count area n r = refl
-said-alike a h f g SetFlag m start count area n r = refl
-
--- the same order over frames whose texts are the same, or in capitals
-done-alike : (a : Areas) (h : Sent) (f g : List ℕ) (x : Asked)
-    → ((m : Message) (start count : ℕ) → x ≡ Order m start count
-    → (numberOf (rest (handed a h f .sent) m) ≡ numberOf (rest (handed a h g .sent) m))
-    × (m .does ≡ SayBack → rest (handed a h f .sent) m ≡ rest (handed a h g .sent) m)
-    × ((unit : ℕ) → newBytes (m .does) unit count (rest (handed a h f .sent) m) ≡ newBytes (m .does) unit count (rest (handed a h g .sent) m)))
-    → (textOf (handed a h f) x ≡ textOf (handed a h g) x) × (areasAfter (handed a h f) x ≡ areasAfter (handed a h g) x)
-done-alike a h f g (Refused k) w = (refl, refl)
-done-alike a h f g (Order m start count) w =
-    let k = w m start count refl in
-    let hold = heldIn (lengthsOf a) in
-    let t = said-alike a h f g (m .does) m start count (areaIn (m .tag) a) (k .0) (k .1) in (
-      ap (replyOf normal (h .settings .station)) t,
-      ap (λ (b : List ℕ). cond (writes (m .does)) (written hold (m .tag) start count b a) a) (k .2 (kindOf hold (m .tag) .unit)),
-    )
 
 -- what holds under release 2 holds of a host of that release
 at-two : {r : ℕ} → r ≡ 2 → (P : ℕ → Type 0) → P 2 → P r
@@ -456,35 +306,14 @@ module _ (a : Areas) (h : Sent) (e : h .settings .release ≡ 2) (checked : Bool
       ap₂ (λ (b : Bool) (n : ℕ). b && eqb n station) (are-admitted (x ∷ y ∷ []) station st ∙ sym (inverse 2 .are-digits 2 station))
       (sym (rules (x ∷ y ∷ []) .same-number) ∙ ap numberOf st)
 
-  -- where it is shaped, both have the same ID and the same content
-  module _ (s : shaped sent ≡ true) where
-    long-text : 3 ≤ length said
-    long-text = long-enough x y said sc sc-long s
-
-    same-id : messageIn sent ≡ messageIn own-command
-    same-id = is-message x y said sc sc-long long-text ∙ sym (is-message (high station) (low station) said own-sc own-long long-text)
-
-    same-body : contentIn sent ≡ contentIn own-command
-    same-body = is-content x y said sc sc-long long-text ∙ sym (is-content (high station) (low station) said own-sc own-long long-text)
+  same-sum : sumSaid (h .settings .release) sent ≡ sumSaid (h .settings .release) own-command
+  same-sum = at-two e (λ (k : ℕ). sumSaid k sent ≡ sumSaid k own-command) (sum-said ∙ sym (summed 2 checked station said))
 
   same-text-alike : Alike a h sent own-command
-  unfolding askedOf
   same-text-alike =
-      let r = h .settings .release in
-      record {
-        shape = same-shape x y (high station) (low station) said said sc own-sc sc-long own-long refl refl;
-        sum = at-two e (λ (k : ℕ). sumSaid k sent ≡ sumSaid k own-command) (sum-said ∙ sym (summed 2 checked station said));
-        station = at-two e (λ (k : ℕ). stationPasses k station sent ≡ stationPasses k station own-command) same-station;
-        asks = λ s.
-            ap₂ (λ (n : Named) (t : List ℕ). judged (heldIn (lengthsOf a)) (h .settings .fitted) r n t)
-            (message-of r sent (messageIn own-command) (same-id s) ∙ sym (message-of r own-command (messageIn own-command) refl))
-            (same-body s);
-        does = λ s z _.
-            done-alike a h sent own-command z
-            (λ m start count _.
-            let same = ap (restIn m) (same-body s) in
-            (ap numberOf same, λ _. same, λ unit. ap (newBytes (m .does) unit count) same));
-      }
+      let b = by-sum a h sent own-command same-sum in
+      text-alike a h x y (high station) (low station) said sc own-sc sc-long own-long (b .0) (b .1)
+      (at-two e (λ (k : ℕ). stationPasses k station sent ≡ stationPasses k station own-command) same-station)
 
 -- a command that isn't a 200H's, and the same in capitals
 module _ (a : Areas) (h : Sent) (e : h .settings .release ≡ 2) (checked : Bool) (said : List ℕ) (other : take 3 said ≡ text "200" → ⊥) where
@@ -546,6 +375,9 @@ module _ (a : Areas) (h : Sent) (e : h .settings .release ≡ 2) (checked : Bool
         not-said-back (handed a h as-capitals) (λ i. other (no-letters (take 3 said) (sym id-capitals ∙ i)))
         (omega (arith, framed-long X Y (capitals said) (sc-of (capitals said)) (long-sc (capitals said)), long-capitals))
 
+  same-sums : sumSaid (h .settings .release) as-is ≡ sumSaid (h .settings .release) as-capitals
+  same-sums = let r = h .settings .release in summed r checked (h .settings .station) said ∙ sym (summed r checked (h .settings .station) (capitals said))
+
   capitals-alike : Alike a h as-is as-capitals
   unfolding stationPasses
   capitals-alike =
@@ -553,8 +385,8 @@ module _ (a : Areas) (h : Sent) (e : h .settings .release ≡ 2) (checked : Bool
         shape =
             same-shape X Y X Y said (capitals said) (sc-of said) (sc-of (capitals said)) (long-sc said) (long-sc (capitals said)) (sym (length-capitals said))
             (other-fits said other ∙ sym (other-fits (capitals said) (other-capitals said other)));
-        sum =
-            summed (h .settings .release) checked (h .settings .station) said ∙ sym (summed (h .settings .release) checked (h .settings .station) (capitals said));
+        forbids = by-sum a h as-is as-capitals same-sums .0;
+        wrong = by-sum a h as-is as-capitals same-sums .1;
         station = refl;
         asks = same-asked;
         does = λ s z q.
@@ -575,7 +407,7 @@ either a h e checked st said sc plain i = go st (sym (length-capitals st) ∙ ap
     said-plain i =
         ⊎-elim (λ q. ap (λ (s : List ℕ). answerOf (asking a h checked s)) (sym (i .test-call q)))
         (λ q.
-        same-answers a h (as-is a h e checked said q) (as-capitals a h e checked said q) (capitals-alike a h e checked said q)
+        same-answers a h (as-is a h e checked said q) (as-capitals a h e checked said q) (capitals-alike a h e checked said q) (same-sums a h e checked said q)
         ∙ ap (λ (s : List ℕ). answerOf (asking a h checked s)) (sym (i .other q)))
         (is-200 said)
 
@@ -586,6 +418,7 @@ either a h e checked st said sc plain i = go st (sym (length-capitals st) ∙ ap
     go (x ∷ y ∷ []) l k =
         same-answers a h (framed x y said sc) (commandOf checked (h .settings .station) said)
         (same-text-alike a h e checked x y said sc (k .station-is) (k .sc-true) (k .sc-off))
+        (same-sum a h e checked x y said sc (k .station-is) (k .sc-true) (k .sc-off))
         ∙ said-plain i
     go (x ∷ y ∷ z ∷ t) l k = absurd (omega arith)
 

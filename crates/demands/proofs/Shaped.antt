@@ -19,7 +19,7 @@ use Rattle.messages.specs.Rows.{firstOf}
 use Rattle.messages.specs.Asked.{askedRows, askedOf}
 use Rattle.calls.specs.Calls.{Areas, Sent, lengthsOf, areaIn, entriesOf}
 use Rattle.refusals.specs.Refusals.{pointsFit, variablesFit, leastJournal, journalFits, refusalOf, backRefusalOf}
-use Rattle.refusals.proofs.Rows.{AreasPass, past-areas, back-rows, ownNumber, frameNumber, refusal-is}
+use Rattle.refusals.proofs.Rows.{AreasPass, past-areas, back-rows, ownNumber, lateNumber, refusal-is}
 use Rattle.demands.specs.Refused.{asksWrite}
 use Rattle.demands.specs.History.{messageBy, ours, callOn, acceptedWrite, entries}
 use Rattle.demands.proofs.Refused.{one-number}
@@ -43,7 +43,7 @@ abbrev pub numberOn : Held → Sent → ℕ
 numberOn held s =
     cond (ltb (length (s .reply)) 1024) 1
     (ownNumber (s .axes) (s .settings) (s .frame)
-    (frameNumber (s .settings) (s .frame)
+    (lateNumber (s .settings) (s .frame)
     (firstOf (askedRows held (s .settings .fitted) (s .settings .release) (messageBy s) (contentIn (s .frame))))))
 
 abbrev pub takes : Held → Sent → Bool

@@ -22,6 +22,8 @@ use Rattle.table.specs.Table.{row}
 use Rattle.calls.specs.Calls.{Areas, Sent, Call, lengthsOf}
 use Rattle.orders.specs.Orders.{rest, writes, newBytes}
 use Rattle.link.specs.Answer.{held, answerOf}
+use Rattle.frames.proofs.Three.{said-off, one-of-three}
+use Rattle.digits.proofs.Bools.{was-not}
 use Rattle.refusals.proofs.Rows.{call-passed}
 use Rattle.link.proofs.Carrying.{fine}
 use Rattle.demands.specs.History.{messageBy, ours}
@@ -105,8 +107,10 @@ pub heard-again : HeardAgain
 heard-again id c a =
     let t = taken c a in
     let p = call-passed c (t .heard) in
-    let f = fine c (t .heard) in
-    record { reply-long = f .reply-long; axes-fit = p .early .axes-fit; release-fits = p .early .release-fits; station-byte = station-byte (c .sent .settings .release) (c .sent .settings .station) (c .sent .frame) (f .frame-long) (p .station) }
+    let f = fine c (t .heard) in (
+      record { reply-long = f .reply-long; axes-fit = p .early .axes-fit; release-fits = p .early .release-fits; station-byte = station-byte (c .sent .settings .release) (c .sent .settings .station) (c .sent .frame) (f .frame-long) (p .station) },
+      λ o. let r = c .sent .settings .release in was-not (rw (said-off r (c .sent .frame) (one-of-three r (c .sent .frame) .off .1 o)) at (p .allowed)),
+    )
 
 written-once : (c : Call) (a : Accepted 0x244 c) → Once ours (a .message) c (countOf (a .message) (c .sent))
 written-once c a =

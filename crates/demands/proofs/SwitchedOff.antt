@@ -1,8 +1,7 @@
 -- Demand 2 of the sum.
 use Prim.Native.Nat.{ℕ, _≤_, _<_}
 use mathlib.Core.Path.{_≡_, refl, sym, ap, _∙_}
-use mathlib.Core.Logic.{_↔_}
-use mathlib.Core.Bool.{Bool, true, false, cond, not, _&&_, true≢false, false≢true}
+use mathlib.Core.Bool.{Bool, true, false, cond, not, _&&_, _||_, true≢false}
 use mathlib.Core.List.{List, []}
 use native.Mathlib.Omega.{arith}
 use lib.Dec.{eqb}
@@ -12,9 +11,9 @@ use Rattle.digits.specs.Laid.{laid}
 use Rattle.digits.specs.Text.{text}
 use Rattle.frames.specs.declared.checks.Sum.{Sum}
 use Rattle.frames.specs.declared.checks.Sum.the-variants.{True, SwitchedOff, Wrong}
-use Rattle.frames.specs.Frame.{contentIn, scIn, sumOff, sumPasses, sumSaid, stationPasses}
+use Rattle.frames.specs.Frame.{contentIn, scOf, sumTrue, sumOff, sumSaid, isOff, isWrong, stationPasses}
 use Rattle.frames.proofs.Bools.{and-false}
-use Rattle.frames.proofs.Three.{isOff, isWrong, which, one-of-three}
+use Rattle.frames.proofs.Three.{neither, said-off, one-of-three}
 use Rattle.messages.specs.Rows.{firstOf}
 use Rattle.kinds.specs.declared.Held.{Held}
 use Rattle.table.specs.declared.Named.{Named}
@@ -22,16 +21,18 @@ use Rattle.table.specs.declared.Named.the-variants.{Known, Unknown}
 use Rattle.messages.specs.Asked.{askedRows, numberGiven}
 use Rattle.calls.specs.declared.Told.{Told}
 use Rattle.calls.specs.declared.Told.the-variants.{Untested, Said}
-use Rattle.calls.specs.Calls.{Areas, Call, Outcome, lengthsOf}
-use Rattle.refusals.specs.Refusals.{areaRows, earlyRows, frameRows, early, silentOf, toldOf}
-use Rattle.refusals.proofs.Rows.{forbidden, frameNumber, earlyNumber, early-rows, frame-rows, frame-by, past-early, early-passed, early-given, silent-is, call-passed, told-untested, told-said, same-told-after}
+use Rattle.calls.specs.Calls.{Call, Outcome, lengthsOf}
+use Rattle.refusals.specs.Refusals.{areaRows, earlyRows, lateRows, early, silentOf, toldOf}
+use Rattle.refusals.proofs.Rows.{forbidden, lateNumber, earlyNumber, early-rows, late-rows, late-by, past-early, early-passed, early-given, silent-is, call-passed, told-untested, told-said, same-told-after}
 use Rattle.link.specs.Answer.{held, asked, textOf, areasAfter, unanswered, answerOf}
 use Rattle.link.proofs.Answering.{silent-answer, heard-answer, asked-number}
 use Rattle.demands.specs.Refused.{among}
 use Rattle.demands.specs.History.{messageBy, ours}
-use Rattle.demands.specs.SwitchedOff.{allowing, silentBefore, answerBefore, Before, butSum, AsBefore, Off, Forbidden, OthersSame, earlyNumbers, SumTold, SwitchedOffRule, ContractAsBefore}
-use Rattle.demands.proofs.Refused.{answer-either, number-given, asked-high}
-use Rattle.demands.proofs.Releases.{same-text, same-areas}
+use Rattle.demands.specs.SwitchedOff.{allowing, silentBefore, Before, butSum, AsBefore, OffAsTrue, Forbidden, OthersSame, earlyNumbers, SumTold, SwitchedOffRule, ContractAsBefore}
+use Rattle.demands.specs.Reading.{before, commandOf}
+use Rattle.demands.proofs.Refused.{answer-either, told-is, number-given, asked-high}
+use Rattle.demands.proofs.Commands.{high, low, summed}
+use Rattle.demands.proofs.Alike.{same-text, same-areas, same-but-sum, text-alike}
 
 -- the number that the sum and the station give
 abbrev lateBy : Sum → Bool → Bool → ℕ
@@ -83,25 +84,36 @@ early-silent c n =
 -- with '@@' allowed, the number is that of before
 before-is : (c : Call)
     → silentBefore c
-    ≡ earlyOf c (cond (not (sumPasses (c .sent .settings .release) (c .sent .frame))) 7 (cond (not (stationPasses (c .sent .settings .release) (c .sent .settings .station) (c .sent .frame))) 8 0))
+    ≡ earlyOf c (cond (not (sumTrue (c .sent .settings .release) (c .sent .frame) || sumOff (c .sent .frame))) 7 (cond (not (stationPasses (c .sent .settings .release) (c .sent .settings .station) (c .sent .frame))) 8 0))
 unfolding earlyRows areaRows
 before-is c = refl
 
-allowed-silent : (c : Call) → c .sent .settings .unchecked ≡ true → silentOf c ≡ silentBefore c
-allowed-silent c u = silent-is c ∙ ap (earlyOf c) (rw (u, and-false (sumOff (c .sent .frame)))) ∙ sym (before-is c)
+allowed-silent : (c : Call) → silentOf (allowing true c) ≡ silentBefore c
+allowed-silent c =
+    let s = sumSaid (c .sent .settings .release) (c .sent .frame) in
+    silent-is (allowing true c)
+    ∙ ap (earlyOf c) (rw (and-false (isOff s), neither (c .sent .settings .release) (c .sent .frame)))
+    ∙ sym (before-is c)
 
 as-before : AsBefore ours
-as-before c u = go (eqb (silentBefore c) 0) refl
+as-before c = go (eqb (silentBefore c) 0) refl
   where
+    on : Call
+    on = allowing true c
+
     go : (b : Bool) → eqb (silentBefore c) 0 ≡ b
-        → butSum (answerOf c)
+        → butSum (answerOf on)
         ≡ cond b (record { number = numberGiven (asked c); text = textOf c (asked c); areas = areasAfter c (asked c) }) (record { number = silentBefore c; text = []; areas = c .areas })
-    go true e = ap butSum (heard-answer c (allowed-silent c u ∙ eqb-true _ _ e))
-    go false e = ap butSum (silent-answer c (silentBefore c) (sym (allowed-silent c u)) (eqb-false _ _ e))
+    go true e =
+        let r = c .sent .settings .release in
+        let t = same-text c r r true (c .sent .settings .unchecked) (asked c) in
+        let s = same-areas c r r true (c .sent .settings .unchecked) (asked c) in
+        ap butSum (heard-answer on (allowed-silent c ∙ eqb-true _ _ e)) ∙ (λ i. record { number = numberGiven (asked c); text = t i; areas = s i })
+    go false e = ap butSum (silent-answer on (silentBefore c) (sym (allowed-silent c)) (eqb-false _ _ e))
 
 pub contract-as-before : ContractAsBefore
-contract-as-before c r areas′ reply′ u a =
-    let e = as-before c u in
+contract-as-before c r areas′ reply′ a =
+    let e = as-before c in
     record {
       number-is = a .number-is ∙ ap (λ (b : Before). b .number) e;
       length-is = a .length-is ∙ ap (λ (b : Before). length (b .text)) e;
@@ -110,14 +122,29 @@ contract-as-before c r areas′ reply′ u a =
       reply-is = a .reply-is ∙ ap (λ (b : Before). laid (c .sent .reply) 0 (b .text)) e;
     }
 
+-- the command with an allowed '@@', and with a true SC
+off-as-true : OffAsTrue ours
+unfolding stationPasses
+off-as-true a h u said =
+    let st = h .settings .station in
+    let r = h .settings .release in
+    same-but-sum a h (commandOf false st said) (commandOf true st said)
+    (text-alike a h (high st) (low st) (high st) (low st) said (text "@@") (scOf (before st said)) refl refl
+    (allows (commandOf false st said) ∙ sym (allows (commandOf true st said)))
+    (ap isWrong (summed r false st said) ∙ sym (ap isWrong (summed r true st said)))
+    refl)
+  where
+    allows : (f : List ℕ) → forbidden (h .settings) f ≡ false
+    allows f = rw u (and-false (isOff (sumSaid (h .settings .release) f)))
+
 -- the number of what no test before the sum refuses
 late-number : (c : Call) → firstOf (early c) ≡ 0
     → silentOf c ≡ lateBy (sumSaid (c .sent .settings .release) (c .sent .frame)) (c .sent .settings .unchecked) (stationPasses (c .sent .settings .release) (c .sent .settings .station) (c .sent .frame))
 late-number c e =
     silent-is c
-    ∙ late c e (frameNumber (c .sent .settings) (c .sent .frame) 0)
-    ∙ sym (frame-rows (c .sent .settings) (c .sent .frame))
-    ∙ frame-by (c .sent .settings) (c .sent .frame) (sumSaid (c .sent .settings .release) (c .sent .frame)) refl
+    ∙ late c e (lateNumber (c .sent .settings) (c .sent .frame) 0)
+    ∙ sym (late-rows (c .sent .settings) (c .sent .frame))
+    ∙ late-by (c .sent .settings) (c .sent .frame) (sumSaid (c .sent .settings .release) (c .sent .frame)) refl
 
 -- a number from 1 to 100 is that of a refusal without a reply, and such a one is the number
 silent-of : (c : Call) (k : ℕ) → 1 ≤ k → k < 101 → answerOf c .number ≡ k → silentOf c ≡ k
@@ -131,19 +158,22 @@ number-of c k l e = ap (λ (o : Outcome). o .number) (silent-answer c k (sym e) 
 
 -- where '@@' is forbidden
 forbidden-rule : Forbidden ours
-forbidden-rule c o u = (ap (λ (x : Outcome). x .areas) is, ap (λ (x : Outcome). x .text) is, λ z. some (sym (ap (λ (x : Outcome). x .number) is) ∙ z), twelve)
+unfolding earlyRows areaRows
+forbidden-rule c o =
+    silent-answer off (silentOf off) refl some
+    ∙ (λ i. unanswered (toldOf c) (is i) (c .areas))
   where
-    seen : forbidden (c .sent .settings) (c .sent .frame) ≡ true
-    seen = rw (one-of-three 1 (c .sent .frame) .off .1 o, u)
+    off : Call
+    off = allowing false c
 
-    some : silentOf c ≡ 0 → ⊥
-    some z = true≢false (sym seen ∙ call-passed c z .allowed)
+    seen : forbidden (off .sent .settings) (c .sent .frame) ≡ true
+    seen = let r = c .sent .settings .release in rw (said-off r (c .sent .frame) (one-of-three r (c .sent .frame) .off .1 o))
 
-    is : answerOf c ≡ unanswered (toldOf c) (silentOf c) (c .areas)
-    is = silent-answer c (silentOf c) refl some
+    some : silentOf off ≡ 0 → ⊥
+    some z = true≢false (sym seen ∙ call-passed off z .allowed)
 
-    twelve : firstOf (early c) ≡ 0 → answerOf c .number ≡ 12
-    twelve e = number-of c 12 (omega arith) (silent-is c ∙ late c e (frameNumber (c .sent .settings) (c .sent .frame) 0) ∙ rw seen)
+    is : silentOf off ≡ earlyOf c 12
+    is = silent-is off ∙ ap (earlyOf c) (rw seen)
 
 -- and where it isn't sent
 others-same : OthersSame ours
@@ -155,12 +185,13 @@ others-same c n = go (eqb (silentOf off) 0) refl
     on : Call
     on = allowing true c
 
-    not-off : sumOff (c .sent .frame) ≡ false
-    not-off = by (sumOff (c .sent .frame)) refl
+    not-off : isOff (sumSaid (c .sent .settings .release) (c .sent .frame)) ≡ false
+    not-off = by (sumSaid (c .sent .settings .release) (c .sent .frame)) refl
       where
-        by : (b : Bool) → sumOff (c .sent .frame) ≡ b → sumOff (c .sent .frame) ≡ false
-        by true e = absurd (n (one-of-three 1 (c .sent .frame) .off .0 e))
-        by false e = e
+        by : (s : Sum) → sumSaid (c .sent .settings .release) (c .sent .frame) ≡ s → isOff s ≡ false
+        by True e = refl
+        by SwitchedOff e = let o = one-of-three (c .sent .settings .release) (c .sent .frame) in absurd (n (o .off .0 (o .says-off .0 e)))
+        by Wrong e = refl
 
     same : silentOf off ≡ silentOf on
     same = silent-is off ∙ ap (earlyOf c) (rw not-off) ∙ sym (silent-is on)
@@ -181,10 +212,6 @@ others-same c n = go (eqb (silentOf off) 0) refl
         ∙ ap (λ (t : Told). unanswered t (silentOf off) (c .areas)) told
         ∙ sym (silent-answer on (silentOf off) same z)
 
--- what is told is what the tests tell
-told-is : (c : Call) → answerOf c .sum ≡ toldOf c
-told-is c = answer-either c (λ (o : Outcome). o .sum ≡ toldOf c) (λ _. refl) (λ _. refl)
-
 -- the numbers of the tests before the sum, and of those from it on
 early-listed : (c : Call) → (firstOf (early c) ≡ 0 → ⊥) → among (firstOf (early c)) earlyNumbers ≡ true
 unfolding earlyRows areaRows
@@ -199,14 +226,14 @@ asked-late held fitted release (Known m) content =
     number-given (λ (k : ℕ). among k earlyNumbers ≡ false) (askedRows held fitted release (Known m) content) refl (refl, (refl, (refl, (refl, (refl, (refl, (refl, tt)))))))
 
 late-listed : (c : Call) → firstOf (early c) ≡ 0 → among (answerOf c .number) earlyNumbers ≡ false
-unfolding frameRows
+unfolding lateRows
 late-listed c e =
     answer-either c (λ (o : Outcome). among (o .number) earlyNumbers ≡ false)
     (λ _.
     rw (asked-number c) (asked-late (held c) (c .sent .settings .fitted) (c .sent .settings .release) (messageBy (c .sent)) (contentIn (c .sent .frame))))
     (λ _.
-    rw (silent-is c ∙ late c e (frameNumber (c .sent .settings) (c .sent .frame) 0))
-    (number-given (λ (k : ℕ). among k earlyNumbers ≡ false) (frameRows (c .sent .settings) (c .sent .frame)) refl (refl, (refl, (refl, tt)))))
+    rw (silent-is c ∙ late c e (lateNumber (c .sent .settings) (c .sent .frame) 0))
+    (number-given (λ (k : ℕ). among k earlyNumbers ≡ false) (lateRows (c .sent .settings) (c .sent .frame)) refl (refl, (refl, (refl, tt)))))
 
 early-some : (c : Call) → (firstOf (early c) ≡ 0 → ⊥) → among (answerOf c .number) earlyNumbers ≡ true
 early-some c n =
@@ -273,4 +300,4 @@ module _ (c : Call) where
       }
 
 pub switched-off : SwitchedOffRule ours
-switched-off = record { as-before = as-before; forbidden = forbidden-rule; others-same = others-same; sum-told = sum-told }
+switched-off = record { as-before = as-before; off-as-true = off-as-true; forbidden = forbidden-rule; others-same = others-same; sum-told = sum-told }

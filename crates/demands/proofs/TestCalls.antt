@@ -25,7 +25,7 @@ use Rattle.messages.proofs.Judged.{Right, ordered}
 use Rattle.calls.specs.declared.Told.{Told}
 use Rattle.calls.specs.Calls.{Areas, Sent, Call, Outcome, lengthsOf}
 use Rattle.refusals.specs.Refusals.{silentOf}
-use Rattle.refusals.proofs.Rows.{area-rows, areas-pass, past-areas, ownNumber, frameNumber, earlyNumber, early-rows, silent-is, call-passed, told-untested}
+use Rattle.refusals.proofs.Rows.{area-rows, areas-pass, past-areas, ownNumber, lateNumber, earlyNumber, early-rows, silent-is, call-passed, told-untested}
 use Rattle.refusals.proofs.Tested.{shape}
 use Rattle.link.specs.Answer.{held, asked, unanswered, answerOf}
 use Rattle.link.proofs.Answering.{silent-answer}
@@ -151,7 +151,7 @@ other-length : OtherLength ours
 other-length a e h host f m n =
     let c = handed a h f in
     let early = early-rows (length (h .reply)) f (h .axes) (h .settings) (lengthsOf a) (a .journal) (a .kept) ∙ six 0 in
-    silent-answer c 6 (sym (silent-is c ∙ six (frameNumber (h .settings) f 0))) (λ z. omega (arith, z))
+    silent-answer c 6 (sym (silent-is c ∙ six (lateNumber (h .settings) f 0))) (λ z. omega (arith, z))
     ∙ ap (λ (t : Told). unanswered t 6 a) (told-untested (h .settings .release) f (λ z. let n : _≡_ {A = ℕ} 6 0 = sym early ∙ z in omega (arith, n)))
   where
     no-shape : shaped f ≡ false

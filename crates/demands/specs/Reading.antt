@@ -47,8 +47,8 @@ before station said = command ∷ (digitsOf 2 station ++ said)
 abbrev pub commandOf : Bool → ℕ → List ℕ → List ℕ
 commandOf checked station said = frameWith (digitsOf 2 station) said (cond checked (scOf (before station said)) (text "@@"))
 
--- a host whose commands are heard where the areas pass: its reply area is long enough (refusal 1), its axes fit (5), its release is 1 or 2 (13; 02, l),
--- and two digits write its station
+-- a host whose commands are heard where the areas pass, with a true SC at least: its reply area is long enough (refusal 1), its axes fit (5), its release
+-- is 1 or 2 (13; 02, l), and two digits write its station
 pub record Host (h : Sent) : Type 0 where
   pub reply-long : 1024 ≤ length (h .reply)
   pub axes-fit : axesFit (h .axes) (h .settings .fitted) ≡ true

@@ -57,7 +57,7 @@ Either board =
 abbrev pub RepliesInCapitals : Conduct → Type 0
 RepliesInCapitals board = (c : Call) → (messageIn (c .sent .frame) ≡ text "200" → ⊥) → InCapitals (board .answer c .text)
 
--- "Any frame release 1 accepts, release 2 answers with the same bytes": number, reply and areas
+-- "Any frame release 1 accepts, release 2 answers with the same bytes": number, reply, areas and what is told of the sum
 abbrev pub SameUnderTwo : Conduct → Type 0
 SameUnderTwo board = (c : Call) → board .answer (under 1 c) .number ≡ 0 → board .answer (under 2 c) ≡ board .answer (under 1 c)
 
@@ -67,7 +67,7 @@ pub record Releases (board : Conduct) : Type 0 where
   pub replies-in-capitals : RepliesInCapitals board
   pub same-under-two : SameUnderTwo board
 
--- so for the contract of `answer`: every number and every lent byte
+-- so for the contract of `answer`: every number, what is told of the sum, and every lent byte
 abbrev pub SameAnswer : Type 0
 SameAnswer =
     (c : Call) (r r′ : Answered) (a a′ : Areas) (reply reply′ : List ℕ) → Answers (under 1 c) r a reply → Answers (under 2 c) r′ a′ reply′

@@ -10,7 +10,7 @@ use Rattle.link.specs.declared.Back.{Back}
 use Rattle.link.specs.Contract.{Answers, StepsBack}
 use Rattle.board.specs.Calls.{Receives, CabinetAnswers, backedOf}
 
--- `answer` and `answer_lent`: every number and every lent byte
+-- `answer` and `answer_lent`: every number, what is told of the sum, and every lent byte
 abbrev pub OneAnswer : Type 0
 OneAnswer =
     (c : Call) (r r′ : Answered) (a a′ : Areas) (reply reply′ : List ℕ)

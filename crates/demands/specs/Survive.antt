@@ -2,9 +2,11 @@
 -- over histories.
 use Prim.Native.Nat.{ℕ, _+_, _*_, _<_, _≤_}
 use mathlib.Core.Path.{_≡_}
-use mathlib.Core.Bool.{false}
+use mathlib.Core.Bool.{true, false}
 use mathlib.Core.List.{List, [], _∷_, _++_}
 use lib.ListN.{length, getD}
+use Rattle.digits.specs.Text.{text}
+use Rattle.frames.specs.Frame.{scIn}
 use Rattle.kinds.specs.declared.Kind.{Kind}
 use Rattle.kinds.specs.Kinds.{pointsOf, kindOf, placeOf, runOf}
 use Rattle.points.specs.Point.{effectiveIn}
@@ -15,7 +17,7 @@ use Rattle.refusals.specs.Refusals.{refusalOf}
 use Rattle.orders.specs.Orders.{writes}
 use Rattle.link.specs.Answer.{held}
 use Rattle.demands.specs.History.{Conduct, messageBy, Past, AfterAny}
-use Rattle.demands.specs.Reading.{startOf, countOf, Host, Reads, effectiveOf, Tells}
+use Rattle.demands.specs.Reading.{startOf, countOf, Host, allowed, Reads, effectiveOf, Tells}
 
 -- a frame of a message ("What the board answers"), by the ID of its row in the table, for which no refusal holds, whatever a board makes of it; what is
 -- lent as the journal is bytes
@@ -26,9 +28,9 @@ pub record Accepted (id : ℕ) (c : Call) : Type 0 where
   pub number : refusalOf c ≡ 0
   pub bytes : (i : ℕ) → getD (c .areas .journal) i 0 < 256
 
--- whoever sent one is a host that is heard again
+-- whoever sent one is a host that is heard again, with '@@' too where it was sent so (02, f)
 abbrev pub HeardAgain : Type 0
-HeardAgain = (id : ℕ) (c : Call) → Accepted id c → Host (c .sent)
+HeardAgain = (id : ℕ) (c : Call) → Accepted id c → Host (c .sent) × (scIn (c .sent .frame) ≡ text "@@" → allowed (c .sent) false ≡ true)
 
 -- what stands before a run of a kind and behind it is as before
 pub record Outside (k : Kind) (start count : ℕ) (area area′ : List ℕ) : Type 0 where

@@ -2,24 +2,25 @@
 use Prim.Native.Nat.{ℕ}
 use mathlib.Core.Path.{_≡_}
 use mathlib.Core.Logic.{_↔_}
-use mathlib.Core.Bool.{Bool, true, false, cond, not}
+use mathlib.Core.Bool.{Bool, true, false, cond, not, _||_}
 use mathlib.Core.List.{List, [], _∷_, _++_}
 use lib.Dec.{eqb}
 use lib.ListN.{length}
 use Rattle.digits.specs.Laid.{laid}
 use Rattle.digits.specs.Text.{text}
 use Rattle.frames.specs.declared.checks.Sum.the-variants.{SwitchedOff, Wrong}
-use Rattle.frames.specs.Frame.{scIn, sumPasses, sumSaid, stationPasses}
+use Rattle.frames.specs.Frame.{scIn, sumTrue, sumOff, sumSaid, stationPasses}
 use Rattle.messages.specs.Rows.{_when_, firstOf}
 use Rattle.messages.specs.Asked.{numberGiven}
 use Rattle.calls.specs.declared.Told.the-variants.{Untested, Said}
-use Rattle.calls.specs.Calls.{Areas, Call, Outcome, callOf}
-use Rattle.refusals.specs.Refusals.{early}
+use Rattle.calls.specs.Calls.{Areas, Sent, Call, Outcome, callOf}
+use Rattle.refusals.specs.Refusals.{early, toldOf}
 use Rattle.link.specs.declared.Answered.{Answered}
 use Rattle.link.specs.Answer.{asked, textOf, areasAfter, unanswered}
 use Rattle.link.specs.Contract.{Answers}
 use Rattle.demands.specs.Refused.{among}
 use Rattle.demands.specs.History.{Conduct}
+use Rattle.demands.specs.Reading.{asking}
 
 -- a call with '@@' allowed or forbidden, whatever it was handed over with
 abbrev pub allowing : Bool → Call → Call
@@ -28,13 +29,12 @@ allowing unchecked c =
     callOf (c .sent .frame) (c .sent .axes) (record { station = s .station; release = s .release; unchecked = unchecked; fitted = s .fitted })
     (c .sent .reply) (c .areas)
 
--- the refusals without a reply as they were before, 1 to 8, 10 and 13
+-- the refusals without a reply as they were before: 1 to 6, 10 and 13, then 7, "SC is neither true nor '@@'", and 8
 abbrev pub silentBefore : Call → ℕ
 silentBefore c =
     let s = c .sent .settings in
-    firstOf
-    (early c
-    ++ ((7 when (not (sumPasses (s .release) (c .sent .frame)))) ∷ (8 when (not (stationPasses (s .release) (s .station) (c .sent .frame)))) ∷ []))
+    let f = c .sent .frame in
+    firstOf (early c ++ ((7 when (not (sumTrue (s .release) f || sumOff f))) ∷ (8 when (not (stationPasses (s .release) (s .station) f))) ∷ []))
 
 -- and what came back: number, reply and areas
 pub record Before : Type 0 where
@@ -50,20 +50,24 @@ answerBefore c =
 abbrev pub butSum : Outcome → Before
 butSum o = record { number = o .number; text = o .text; areas = o .areas }
 
--- "With the setting on, demand 2 reads as before": whole calls are those of before, but that the sum is told
+-- "With the setting on, demand 2 reads as before": whole calls are those of before, which knew no setting, but that the sum is told
 abbrev pub AsBefore : Conduct → Type 0
-AsBefore board = (c : Call) → c .sent .settings .unchecked ≡ true → butSum (board .answer c) ≡ answerBefore c
+AsBefore board = (c : Call) → butSum (board .answer (allowing true c)) ≡ answerBefore c
+
+-- '@@' where it is allowed "is then not checked" ("Frame"): the command with it is answered as the one with a true SC, but for what is told of the sum
+abbrev pub OffAsTrue : Conduct → Type 0
+OffAsTrue board =
+    (a : Areas) (h : Sent) → h .settings .unchecked ≡ true → (said : List ℕ)
+    → butSum (board .answer (asking a h false said)) ≡ butSum (board .answer (asking a h true said))
 
 -- '@@' is sent
 abbrev pub Off : Call → Type 0
 Off c = scIn (c .sent .frame) ≡ text "@@"
 
--- where it is forbidden, it changes nothing and has no reply, and its number is 12 where nothing before the sum refuses
+-- where it is forbidden, nothing is changed and nothing replied: the number is 12, or that of what refuses before the sum
 abbrev pub Forbidden : Conduct → Type 0
 Forbidden board =
-    (c : Call) → Off c → c .sent .settings .unchecked ≡ false
-    → (board .answer c .areas ≡ c .areas) × (board .answer c .text ≡ []) × (board .answer c .number ≡ 0 → ⊥)
-    × (firstOf (early c) ≡ 0 → board .answer c .number ≡ 12)
+    (c : Call) → Off c → board .answer (allowing false c) ≡ unanswered (toldOf c) (firstOf (early c ++ ((12 when true) ∷ []))) (c .areas)
 
 -- and of any other frame the setting says nothing: all that holds of it with the setting on holds with it off
 abbrev pub OthersSame : Conduct → Type 0
@@ -85,6 +89,7 @@ pub record SumTold (c : Call) (o : Outcome) : Type 0 where
 
 pub record SwitchedOffRule (board : Conduct) : Type 0 where
   pub as-before : AsBefore board
+  pub off-as-true : OffAsTrue board
   pub forbidden : Forbidden board
   pub others-same : OthersSame board
   pub sum-told : (c : Call) → SumTold c (board .answer c)
@@ -99,5 +104,4 @@ pub record AnsweredBefore (c : Call) (r : Answered) (areas′ : Areas) (reply′
 
 abbrev pub ContractAsBefore : Type 0
 ContractAsBefore =
-    (c : Call) (r : Answered) (areas′ : Areas) (reply′ : List ℕ) → c .sent .settings .unchecked ≡ true → Answers c r areas′ reply′
-    → AnsweredBefore c r areas′ reply′
+    (c : Call) (r : Answered) (areas′ : Areas) (reply′ : List ℕ) → Answers (allowing true c) r areas′ reply′ → AnsweredBefore c r areas′ reply′

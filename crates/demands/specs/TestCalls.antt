@@ -42,8 +42,8 @@ pub record SaidBack (find : List ℕ → Found) (board : Conduct) (a : Areas) (h
   pub says : toFound find board a h received .text ≡ replyOf normal (h .settings .station) (text "200" ++ ten)
   pub areas : toFound find board a h received .areas ≡ a
 
--- so over areas that no test refuses, from any host that is heard: any ten bytes, CR LF, '!' and '!xx200' among them, behind bytes without '!', whatever
--- follows (02, c)
+-- so over areas that no test refuses, from any host that is heard, with a true SC or an allowed '@@': any ten bytes, CR LF, '!' and '!xx200' among them,
+-- behind bytes without '!', whatever follows (02, c)
 abbrev pub EveryTestCall : (List ℕ → Found) → Conduct → Type 0
 EveryTestCall find board =
     (a : Areas) → Unrefused a → (h : Sent) → Host h → (checked : Bool) → allowed h checked ≡ true → (ten before behind : List ℕ) → length ten ≡ 10

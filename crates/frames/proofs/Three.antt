@@ -1,19 +1,19 @@
 -- The sum test's three answers (02, f): a true SC is not '@@', so one of them holds.
 use Prim.Native.Nat.{ℕ, _≤_}
-use mathlib.Core.Path.{_≡_, refl, sym, ap, _∙_}
+use mathlib.Core.Path.{_≡_, refl, sym, ap}
 use mathlib.Core.Logic.{_↔_}
 use mathlib.Core.Bool.{Bool, true, false, cond, not, _&&_, _||_, true≢false, false≢true}
 use mathlib.Core.List.{List, [], _∷_}
 use native.Mathlib.Omega.{arith}
 use lib.Dec.{eqb}
-use lib.ListN.{length, take, drop, getD, length-take}
+use lib.ListN.{length, getD, length-take}
 use borrow.Author.Tests.{eqb-true}
-use Rattle.digits.specs.Digits.{admits, admitted, numberOf}
+use Rattle.digits.specs.Digits.{admits, admitted}
 use Rattle.digits.specs.Text.{text}
 use Rattle.digits.proofs.Inverse.{and-left, and-right}
 use Rattle.frames.specs.declared.checks.Sum.{Sum}
 use Rattle.frames.specs.declared.checks.Sum.the-variants.{True, SwitchedOff, Wrong}
-use Rattle.frames.specs.Frame.{beforeSC, scIn, lowByte, sumTrue, sumOff, sumPasses, sumSaid}
+use Rattle.frames.specs.Frame.{scIn, sumTrue, sumOff, sumSaid, isWrong}
 use Rattle.frames.specs.Laws.{OneOfThree}
 use Rattle.frames.proofs.Bools.{and-false}
 
@@ -36,17 +36,6 @@ placeOf True = 0
 placeOf SwitchedOff = 1
 placeOf Wrong = 2
 
--- what each answer says of test 12 and of test 7
-abbrev pub isOff : Sum → Bool
-isOff True = false
-isOff SwitchedOff = true
-isOff Wrong = false
-
-abbrev pub isWrong : Sum → Bool
-isWrong True = false
-isWrong SwitchedOff = false
-isWrong Wrong = true
-
 module _ (release : ℕ) (frame : List ℕ) where
   -- a frame that is switched off has no true SC
   pub off-not-true : sumOff frame ≡ true → sumTrue release frame ≡ false
@@ -66,19 +55,18 @@ module _ (release : ℕ) (frame : List ℕ) where
   unfolding sumSaid
   said-wrong e f = rw (f, e)
 
-  pub which : (sumOff frame ≡ isOff (sumSaid release frame)) × (not (sumPasses release frame) ≡ isWrong (sumSaid release frame))
-  unfolding sumPasses sumSaid
-  which = go (sumTrue release frame) (sumOff frame) off-not-true
+  -- test 7 as document 01 has it: neither true nor '@@'
+  pub neither : isWrong (sumSaid release frame) ≡ not (sumTrue release frame || sumOff frame)
+  unfolding sumSaid
+  neither = go (sumTrue release frame) (sumOff frame)
     where
-      go : (t o : Bool) → (o ≡ true → t ≡ false)
-          → (o ≡ isOff (cond t True (cond o SwitchedOff Wrong))) × (not (t || o) ≡ isWrong (cond t True (cond o SwitchedOff Wrong)))
-      go true true h = absurd (true≢false (h refl))
-      go true false h = (refl, refl)
-      go false true h = (refl, refl)
-      go false false h = (refl, refl)
+      go : (t o : Bool) → isWrong (cond t True (cond o SwitchedOff Wrong)) ≡ not (t || o)
+      go true o = refl
+      go false true = refl
+      go false false = refl
 
   pub one-of-three : OneOfThree release frame
-  unfolding sumOff sumPasses sumSaid
+  unfolding sumOff sumSaid
   one-of-three =
       record {
         off = (λ e. two (scIn frame) (simp length-take (omega arith)) (eqb-true _ _ (and-left p q e)) (eqb-true _ _ (and-right p q e)), λ e. rw e);
@@ -111,7 +99,7 @@ module _ (release : ℕ) (frame : List ℕ) where
       go-off false true h = (λ e. refl, λ e. refl)
       go-off false false h = (no Wrong SwitchedOff (λ z. omega (arith, z)), λ e. absurd (false≢true e))
 
-      go-wrong : (t o : Bool) → (said t o ≡ Wrong) ↔ (t || o ≡ false)
-      go-wrong true o = (no True Wrong (λ z. omega (arith, z)), λ e. absurd (true≢false e))
-      go-wrong false true = (no SwitchedOff Wrong (λ z. omega (arith, z)), λ e. absurd (true≢false e))
-      go-wrong false false = (λ e. refl, λ e. refl)
+      go-wrong : (t o : Bool) → (said t o ≡ Wrong) ↔ ((t ≡ false) × (o ≡ false))
+      go-wrong true o = (no True Wrong (λ z. omega (arith, z)), λ e. absurd (true≢false (e .0)))
+      go-wrong false true = (no SwitchedOff Wrong (λ z. omega (arith, z)), λ e. absurd (true≢false (e .1)))
+      go-wrong false false = (λ e. (refl, refl), λ e. refl)

@@ -1,11 +1,11 @@
 -- The worked cases, by computing.
 use mathlib.Core.Path.{refl}
 use Rattle.digits.specs.Digits.{admits, worthOf, byteOf}
-use Rattle.frames.specs.Frame.{hasTestID, shaped, sumTrue, sumOff, sumPasses, sumSaid, stationPasses, replyOf}
+use Rattle.frames.specs.Frame.{hasTestID, shaped, sumTrue, sumOff, sumSaid, stationPasses, replyOf}
 use Rattle.frames.specs.Cases.{Cases}
 
 pub cases : Cases
-unfolding admits worthOf byteOf hasTestID shaped sumTrue sumOff sumPasses sumSaid stationPasses replyOf
+unfolding admits worthOf byteOf hasTestID shaped sumTrue sumOff sumSaid stationPasses replyOf
 cases =
     record {
       sum = refl;
@@ -13,7 +13,6 @@ cases =
       passes = refl;
       wrong = refl;
       off = refl;
-      said = (refl, refl, refl);
       once = (refl, refl);
       capital-sum = refl;
       capital = λ r. refl;

@@ -1,6 +1,6 @@
--- Document 01, "Frame", and the tests 6, 7 and 8 of its refusal table, with document 02, requests c, f and l; source document 000, sections 3 and 4-3-1.
+-- Document 01, "Frame", and of its refusal table test 6, the sum test behind 12 and 7, and test 8, with document 02, requests c, f and l; source document 000, sections 3 and 4-3-1.
 use Prim.Native.Nat.{ℕ, _+_, _-_, _/_, _%_}
-use mathlib.Core.Bool.{Bool, cond, not, _&&_, _||_}
+use mathlib.Core.Bool.{Bool, true, false, cond, not, _&&_, _||_}
 use mathlib.Core.List.{List, [], _∷_, _++_}
 use lib.ListN.{length, take, drop, getD}
 use lib.Dec.{leb, eqb}
@@ -82,13 +82,20 @@ sumTrue release frame = saysNumber release (scIn frame) (lowByte (beforeSC frame
 unfoldable pub sumOff : List ℕ → Bool
 sumOff frame = eqb (getD (scIn frame) 0 0) 0x40 && eqb (getD (scIn frame) 1 0) 0x40
 
--- Test 7, passed: the SC is "true" or "'@@'"
-unfoldable pub sumPasses : ℕ → List ℕ → Bool
-sumPasses release frame = sumTrue release frame || sumOff frame
-
 -- "The sum test must answer one of three: true, switched off, wrong." (02, f)
 unfoldable pub sumSaid : ℕ → List ℕ → Sum
 sumSaid release frame = cond (sumTrue release frame) True (cond (sumOff frame) SwitchedOff Wrong)
+
+-- tests 12 and 7, by what the sum test says: '@@', and a wrong SC (02, f)
+abbrev pub isOff : Sum → Bool
+isOff True = false
+isOff SwitchedOff = true
+isOff Wrong = false
+
+abbrev pub isWrong : Sum → Bool
+isWrong True = false
+isWrong SwitchedOff = false
+isWrong Wrong = true
 
 -- Test 8, passed: the station is "digits" and does not differ
 unfoldable pub stationPasses : ℕ → ℕ → List ℕ → Bool

@@ -8,7 +8,7 @@ use lib.ListN.{length, drop, getD}
 use Rattle.digits.specs.Digits.{capitals, admitted, digitsOf}
 use Rattle.digits.specs.Text.{text}
 use Rattle.frames.specs.declared.checks.Sum.the-variants.{True, SwitchedOff, Wrong}
-use Rattle.frames.specs.Frame.{stationIn, messageIn, beforeSC, scIn, scOf, hasTestID, sumTrue, sumOff, sumPasses, sumSaid, replyOf, CR, LF}
+use Rattle.frames.specs.Frame.{stationIn, messageIn, beforeSC, scIn, scOf, hasTestID, sumTrue, sumOff, sumSaid, replyOf, CR, LF}
 
 -- Frame: "SC is the low byte of the sum of all bytes before it, as two digits": in four bytes or more, an SC is true just where its two bytes are admitted
 -- and are, in capitals, those digits (02, l)
@@ -21,7 +21,7 @@ pub record OneOfThree (release : ℕ) (frame : List ℕ) : Type 0 where
   pub off : (sumOff frame ≡ true) ↔ (scIn frame ≡ text "@@")
   pub says-true : (sumSaid release frame ≡ True) ↔ (sumTrue release frame ≡ true)
   pub says-off : (sumSaid release frame ≡ SwitchedOff) ↔ (sumOff frame ≡ true)
-  pub says-wrong : (sumSaid release frame ≡ Wrong) ↔ (sumPasses release frame ≡ false)
+  pub says-wrong : (sumSaid release frame ≡ Wrong) ↔ ((sumTrue release frame ≡ false) × (sumOff frame ≡ false))
 
 -- 02, c: a frame is a test call just where its ID is '200', and not where fewer bytes are there
 abbrev pub TestID : List ℕ → Type 0

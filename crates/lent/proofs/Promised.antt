@@ -17,7 +17,7 @@ use Rattle.messages.specs.Asked.{askedRows}
 use Rattle.calls.specs.declared.Settings.{Settings}
 use Rattle.calls.specs.Calls.{Areas, lengthsOf, callOf}
 use Rattle.refusals.specs.Refusals.{axesFit, areaRows, refusalOf}
-use Rattle.refusals.proofs.Rows.{areaNumber, ownNumber, frameNumber, area-rows, areas-pass, past-areas, refusal-is}
+use Rattle.refusals.proofs.Rows.{areaNumber, ownNumber, lateNumber, area-rows, areas-pass, past-areas, refusal-is}
 use Rattle.lent.specs.Laws.{SameEight, OtherCount}
 
 pub same-eight : SameEight
@@ -35,4 +35,4 @@ other-count frame records settings reply a n r e =
     ap (λ (x : Axes). refusalOf (callOf frame x settings reply a)) l
     ∙ refusal-is (callOf frame noAxes settings reply a)
     ∙ rw (le-ltb (length reply) 1024 r)
-    (past-areas (lengthsOf a) (a .journal) (a .kept) p (ownNumber noAxes settings frame (frameNumber settings frame k)) ∙ rw (not-eight (settings .fitted)))
+    (past-areas (lengthsOf a) (a .journal) (a .kept) p (ownNumber noAxes settings frame (lateNumber settings frame k)) ∙ rw (not-eight (settings .fitted)))

@@ -156,7 +156,7 @@ module _ {c : Call} {o : Order} (e : Heard c o) (tag : ℕ) (whole : replacing t
 
     pub performed : Performs c r (replacing tag area′ (c .areas) journal′ (r .kept)) reply′
     performed =
-        answers-by c _ (accepted (toldOf c) r) (replacing tag area′ (c .areas) journal′ (r .kept)) reply′ refl
+        answers-by c _ (accepted r (toldOf c)) (replacing tag area′ (c .areas) journal′ (r .kept)) reply′ refl
         (asked-so c (asks.Order (o .message) (o .start) (o .count)) (e .silent-0) (e .order))
         refl
         (p .length-is ∙ ap (λ (x : List ℕ). length (replyOf normal (c .sent .settings .station) x)) said)
@@ -165,7 +165,7 @@ module _ {c : Call} {o : Order} (e : Heard c o) (tag : ℕ) (whole : replacing t
         (p .bytes ∙ ap (λ (x : List ℕ). laid (c .sent .reply) 0 (replyOf normal (c .sent .settings .station) x)) said)
 
 -- the result that says so
-pub accepted-so : {c : Call} {r : Answered} (done : Done) {t : Told} {p i n f j reply′ : List ℕ} {s : Firsts} → r ≡ accepted t done → t ≡ toldOf c
+pub accepted-so : {c : Call} {r : Answered} (done : Done) {t : Told} {p i n f j reply′ : List ℕ} {s : Firsts} → r ≡ accepted done t → t ≡ toldOf c
     → Performs c done (areasOf p i n f j (done .kept) s) reply′ → Answers c r (areasOf p i n f j (r .kept) s) reply′
 accepted-so {c} done {t} {p} {i} {n} {f} {j} {reply′} {s} e g a =
-    subst (λ (x : Answered). Answers c x (areasOf p i n f j (x .kept) s) reply′) (sym (e ∙ ap (λ (x : Told). accepted x done) g)) a
+    subst (λ (x : Answered). Answers c x (areasOf p i n f j (x .kept) s) reply′) (sym (e ∙ ap (λ (x : Told). accepted done x) g)) a

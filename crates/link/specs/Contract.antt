@@ -1,4 +1,4 @@
--- The contract of each public call: one record of equations that determines every number and every lent byte.
+-- The contract of each public call: one record of equations that determines every number, what is told of the sum, and every lent byte.
 use Prim.Native.Nat.{ℕ}
 use mathlib.Core.Path.{_≡_}
 use mathlib.Core.List.{List}
@@ -21,8 +21,8 @@ pub record Heard (c : Call) (o : Order) : Type 0 where
   pub order : asked c ≡ asks.Order (o .message) (o .start) (o .count)
 
 -- an order that was carried out: "An accepted call has number 0."
-abbrev pub accepted : Told → Done → Answered
-accepted told done = record { number = 0; length = done .length; kept = done .kept; sum = told }
+abbrev pub accepted : Done → Told → Answered
+accepted done told = record { number = 0; length = done .length; kept = done .kept; sum = told }
 
 -- what an answer gives and leaves is the outcome; the reply is laid over the front of the reply area, and what is beyond it stays
 pub record Answers (c : Call) (r : Answered) (areas′ : Areas) (reply′ : List ℕ) : Type 0 where
@@ -33,9 +33,9 @@ pub record Answers (c : Call) (r : Answered) (areas′ : Areas) (reply′ : List
   pub areas-are : areas′ ≡ answerOf c .areas
   pub reply-is : reply′ ≡ laid (c .sent .reply) 0 (answerOf c .text)
 
--- an order of a call, carried out, is its answer
+-- an order of a call that was carried out, with what is told of the sum beside it, is its answer
 abbrev pub Performs : Call → Done → Areas → List ℕ → Type 0
-Performs c done areas′ reply′ = Answers c (accepted (toldOf c) done) areas′ reply′
+Performs c done areas′ reply′ = Answers c (accepted done (toldOf c)) areas′ reply′
 
 -- what a step back gives and leaves
 pub record StepsBack (a : Areas) (r : Back) (areas′ : Areas) : Type 0 where

@@ -46,7 +46,7 @@ pub struct Back {
 
 // What an order that was carried out gives: number 0.
 fn accept(done: Done, sum: Told) -> Answered
-    ensures { λ r. ⌜ r ≡ accepted sum done ⌝ }
+    ensures { λ r. ⌜ r ≡ accepted done sum ⌝ }
 {
     let kept = done.kept;
     Answered {

@@ -3,15 +3,14 @@ use Prim.Native.Nat.{ℕ, _+_, _≤_, _<_}
 use mathlib.Core.Path.{_≡_, refl, sym, ap₂, _∙_}
 use mathlib.Core.Bool.{Bool, true, false, cond, not, _&&_}
 use mathlib.Core.Logic.{_⊎_, inl, inr}
-use mathlib.Core.List.{List}
+use mathlib.Core.List.{List, _++_}
 use native.Mathlib.Omega.{arith}
 use lib.Dec.{ltb, eqb}
 use lib.ListN.{length}
 use borrow.Author.Tests.{lt-ltb, le-ltb, eq-eqb, ne-eqb}
 use Rattle.digits.proofs.Bools.{was-not}
 use Rattle.frames.specs.declared.checks.Sum.{Sum}
-use Rattle.frames.specs.Frame.{contentIn, shaped, sumOff, sumPasses, sumSaid, stationPasses}
-use Rattle.frames.proofs.Three.{isOff, isWrong, which}
+use Rattle.frames.specs.Frame.{contentIn, shaped, sumSaid, isOff, isWrong, stationPasses}
 use Rattle.messages.specs.Rows.{firstOf}
 use Rattle.table.specs.Table.{messageOf}
 use Rattle.messages.specs.Asked.{askedRows}
@@ -23,7 +22,7 @@ use Rattle.kinds.specs.declared.Lengths.{Lengths}
 use Rattle.kinds.specs.Kinds.{heldIn}
 use Rattle.calls.specs.Calls.{Call, lengthsOf}
 use Rattle.refusals.proofs.Tested.{shaped-long}
-use Rattle.refusals.specs.Refusals.{pointsFit, variablesFit, journalFits, axesFit, releaseFits, areaRows, earlyRows, frameRows, silentRows, silentOf, early, toldAfter, toldOf, refusalOf, backRows}
+use Rattle.refusals.specs.Refusals.{pointsFit, variablesFit, journalFits, axesFit, releaseFits, areaRows, earlyRows, lateRows, silentOf, early, toldAfter, toldOf, refusalOf, backRows}
 
 -- the areas' four, in the order tested, and what comes behind them
 abbrev pub four : Bool → Bool → Bool → Bool → ℕ → ℕ
@@ -104,21 +103,21 @@ ownNumber axes settings frame k =
 
 -- '@@' where it is forbidden
 abbrev pub forbidden : Settings → List ℕ → Bool
-forbidden settings frame = sumOff frame && not (settings .unchecked)
+forbidden settings frame = isOff (sumSaid (settings .release) frame) && not (settings .unchecked)
 
 -- the sum and the station
 module _ (settings : Settings) (frame : List ℕ) where
-  abbrev pub frameNumber : ℕ → ℕ
-  frameNumber k =
+  abbrev pub lateNumber : ℕ → ℕ
+  lateNumber k =
       cond (forbidden settings frame) 12
-      (cond (not (sumPasses (settings .release) frame)) 7 (cond (not (stationPasses (settings .release) (settings .station) frame)) 8 k))
+      (cond (isWrong (sumSaid (settings .release) frame)) 7 (cond (not (stationPasses (settings .release) (settings .station) frame)) 8 k))
 
-  pub frame-rows : firstOf (frameRows settings frame) ≡ frameNumber 0
-  unfolding frameRows
-  frame-rows = refl
+  pub late-rows : firstOf (lateRows settings frame) ≡ lateNumber 0
+  unfolding lateRows
+  late-rows = refl
 
-  frame-gate : Gate frameNumber
-  frame-gate = go (forbidden settings frame) (not (sumPasses (settings .release) frame)) (not (stationPasses (settings .release) (settings .station) frame))
+  late-gate : Gate lateNumber
+  late-gate = go (forbidden settings frame) (isWrong (sumSaid (settings .release) frame)) (not (stationPasses (settings .release) (settings .station) frame))
     where
       go : (t u v : Bool) → Gate (λ k. cond t 12 (cond u 7 (cond v 8 k)))
       go true u v = inr (λ k. refl, omega arith, omega arith)
@@ -131,14 +130,14 @@ module _ (reply : ℕ) (frame : List ℕ) (axes : Axes) (settings : Settings) (l
   earlyNumber k = cond (ltb reply 1024) 1 (areaNumber lengths journal kept (ownNumber axes settings frame k))
 
   abbrev pub silentNumber : ℕ → ℕ
-  silentNumber k = earlyNumber (frameNumber settings frame k)
+  silentNumber k = earlyNumber (lateNumber settings frame k)
 
   pub early-rows : firstOf (earlyRows reply frame axes settings lengths journal kept) ≡ earlyNumber 0
   unfolding earlyRows areaRows
   early-rows = refl
 
-  pub silent-rows : firstOf (silentRows reply frame axes settings lengths journal kept) ≡ silentNumber 0
-  unfolding silentRows earlyRows areaRows frameRows
+  pub silent-rows : firstOf (earlyRows reply frame axes settings lengths journal kept ++ lateRows settings frame) ≡ silentNumber 0
+  unfolding earlyRows areaRows lateRows
   silent-rows = refl
 
   -- nothing before the sum refuses
@@ -156,11 +155,11 @@ module _ (reply : ℕ) (frame : List ℕ) (axes : Axes) (settings : Settings) (l
   pub record Passed : Type 0 where
     pub early : EarlyPassed
     pub allowed : forbidden settings frame ≡ false
-    pub sum : sumPasses (settings .release) frame ≡ true
+    pub sum : isWrong (sumSaid (settings .release) frame) ≡ false
     pub station : stationPasses (settings .release) (settings .station) frame ≡ true
 
   pub past-silent : Passed → (k : ℕ) → silentNumber k ≡ k
-  past-silent p k = past-early (p .early) (frameNumber settings frame k) ∙ rw (p .allowed, p .sum, p .station)
+  past-silent p k = past-early (p .early) (lateNumber settings frame k) ∙ rw (p .allowed, p .sum, p .station)
 
   one-passed : (b : Bool) (n k : ℕ) → 1 ≤ n → cond b n k ≡ 0 → (b ≡ false) × (k ≡ 0)
   one-passed true n k h e = absurd (omega arith)
@@ -179,12 +178,12 @@ module _ (reply : ℕ) (frame : List ℕ) (axes : Axes) (settings : Settings) (l
   pub passed : {k : ℕ} → silentNumber k ≡ 0 → Passed × (k ≡ 0)
   passed {k} e =
       let p = early-passed e in
-      let wrong = not (sumPasses (settings .release) frame) in
+      let wrong = isWrong (sumSaid (settings .release) frame) in
       let other = not (stationPasses (settings .release) (settings .station) frame) in
       let a = one-passed (forbidden settings frame) 12 (cond wrong 7 (cond other 8 k)) (omega arith) (p .1) in
       let b = one-passed wrong 7 (cond other 8 k) (omega arith) (a .1) in
       let c = one-passed other 8 k (omega arith) (b .1) in
-      (record { early = p .0; allowed = a .0; sum = was-not (b .0); station = was-not (c .0) }, c .1)
+      (record { early = p .0; allowed = a .0; sum = b .0; station = was-not (c .0) }, c .1)
 
   early-gate : Gate earlyNumber
   early-gate =
@@ -211,7 +210,7 @@ module _ (reply : ℕ) (frame : List ℕ) (axes : Axes) (settings : Settings) (l
 
   -- and so of all that come without a reply
   pub silent-given : (k : ℕ) → (silentNumber 0 ≡ 0 → ⊥) → (silentNumber k ≡ silentNumber 0) × (silentNumber 0 < 101)
-  silent-given k h = gate-given (gates early-gate (frame-gate settings frame)) k h
+  silent-given k h = gate-given (gates early-gate (late-gate settings frame)) k h
 
 -- a call's rows
 abbrev pub numberOf : Call → ℕ → ℕ
@@ -221,12 +220,12 @@ abbrev pub CallPassed : Call → Type 0
 CallPassed c = Passed (length (c .sent .reply)) (c .sent .frame) (c .sent .axes) (c .sent .settings) (lengthsOf (c .areas)) (c .areas .journal) (c .areas .kept)
 
 pub silent-is : (c : Call) → silentOf c ≡ numberOf c 0
-unfolding silentOf silentRows earlyRows areaRows frameRows
+unfolding silentOf earlyRows areaRows lateRows
 silent-is c = refl
 
 pub refusal-is : (c : Call)
     → refusalOf c ≡ numberOf c (firstOf (askedRows (heldIn (lengthsOf (c .areas))) (c .sent .settings .fitted) (c .sent .settings .release) (messageOf (c .sent .settings .release) (c .sent .frame)) (contentIn (c .sent .frame))))
-unfolding refusalOf silentRows earlyRows areaRows frameRows
+unfolding refusalOf earlyRows areaRows lateRows
 refusal-is c = refl
 
 pub call-passed : (c : Call) → silentOf c ≡ 0 → CallPassed c
@@ -297,7 +296,7 @@ module _ (l : Lengths) (j : List ℕ) (kept : Kept) where
 
     -- behind them stand the sum and the station
     pub silent-early : {n : ℕ} → n ≡ firstOf (earlyRows reply frame axes settings l j kept) → (n ≡ 0 → ⊥)
-        → n ≡ firstOf (silentRows reply frame axes settings l j kept)
+        → n ≡ firstOf (earlyRows reply frame axes settings l j kept ++ lateRows settings frame)
     silent-early e f =
         e
         ∙ early-rows reply frame axes settings l j kept
@@ -310,16 +309,16 @@ module _ (l : Lengths) (j : List ℕ) (kept : Kept) where
       pub silent-long : 10 ≤ length frame
       silent-long = shaped-long frame (none-early .shape)
 
-      pub silent-frame : {n : ℕ} → n ≡ firstOf (frameRows settings frame) → n ≡ firstOf (silentRows reply frame axes settings l j kept)
-      silent-frame g =
-          g ∙ frame-rows settings frame ∙ sym (silent-rows reply frame axes settings l j kept ∙ past-early reply frame axes settings l j kept none-early _)
+      pub silent-late : {n : ℕ} → n ≡ firstOf (lateRows settings frame) → n ≡ firstOf (earlyRows reply frame axes settings l j kept ++ lateRows settings frame)
+      silent-late g =
+          g ∙ late-rows settings frame ∙ sym (silent-rows reply frame axes settings l j kept ∙ past-early reply frame axes settings l j kept none-early _)
 
 -- the tests of the sum and the station, by what the sum test said
 module _ (settings : Settings) (frame : List ℕ) where
-  pub frame-by : (s : Sum) → s ≡ sumSaid (settings .release) frame
-      → firstOf (frameRows settings frame)
+  pub late-by : (s : Sum) → s ≡ sumSaid (settings .release) frame
+      → firstOf (lateRows settings frame)
       ≡ cond (isOff s && not (settings .unchecked)) 12 (cond (isWrong s) 7 (cond (not (stationPasses (settings .release) (settings .station) frame)) 8 0))
-  frame-by s e = let w = which (settings .release) frame in frame-rows settings frame ∙ rw (w .0, w .1, ← e)
+  late-by s e = late-rows settings frame ∙ rw (← e)
 
 -- what is told, by the refusal before the sum
 pub told-untested : {n : ℕ} (release : ℕ) (frame : List ℕ) → (n ≡ 0 → ⊥) → toldAfter n release frame ≡ Untested

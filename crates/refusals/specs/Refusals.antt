@@ -5,7 +5,7 @@ use mathlib.Core.Bool.{Bool, true, cond, not, _&&_, _||_}
 use mathlib.Core.List.{List, [], _∷_, _++_}
 use lib.Dec.{ltb, leb, eqb}
 use lib.ListN.{length, take}
-use Rattle.frames.specs.Frame.{contentIn, shaped, sumOff, sumPasses, sumSaid, stationPasses}
+use Rattle.frames.specs.Frame.{contentIn, shaped, sumSaid, isOff, isWrong, stationPasses}
 use Rattle.kinds.specs.declared.Held.{Held}
 use Rattle.kinds.specs.Kinds.{heldIn}
 use Rattle.journal.specs.Journal.{whole}
@@ -75,24 +75,20 @@ earlyRows reply frame axes settings lengths journal kept =
     ∷ []))
 
 -- 12 ("for '@@' where forbidden, in 7's place in the order", 02, f), 7 and 8: the sum and the station
-unfoldable pub frameRows : Settings → List ℕ → List Row
-frameRows settings frame =
-    (12 when (sumOff frame && not (settings .unchecked)))
-    ∷ (7 when (not (sumPasses (settings .release) frame)))
+unfoldable pub lateRows : Settings → List ℕ → List Row
+lateRows settings frame =
+    (12 when (isOff (sumSaid (settings .release) frame) && not (settings .unchecked)))
+    ∷ (7 when (isWrong (sumSaid (settings .release) frame)))
     ∷ (8 when (not (stationPasses (settings .release) (settings .station) frame)))
     ∷ []
 
 -- a frame's refusals without a reply
-unfoldable pub silentRows : ℕ → List ℕ → Axes → Settings → Lengths → List ℕ → Kept → List Row
-silentRows reply frame axes settings lengths journal kept = earlyRows reply frame axes settings lengths journal kept ++ frameRows settings frame
-
 abbrev pub early : Call → List Row
 early c =
     earlyRows (length (c .sent .reply)) (c .sent .frame) (c .sent .axes) (c .sent .settings) (lengthsOf (c .areas)) (c .areas .journal) (c .areas .kept)
 
 abbrev pub silent : Call → List Row
-silent c =
-    silentRows (length (c .sent .reply)) (c .sent .frame) (c .sent .axes) (c .sent .settings) (lengthsOf (c .areas)) (c .areas .journal) (c .areas .kept)
+silent c = early c ++ lateRows (c .sent .settings) (c .sent .frame)
 
 unfoldable pub silentOf : Call → ℕ
 silentOf c = firstOf (silent c)

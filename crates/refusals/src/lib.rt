@@ -15,12 +15,13 @@ use kinds::Lengths;
 use kinds::held_in;
 use points::point::Point;
 ghost use mathlib.Core.Path.{_≡_};
+ghost use mathlib.Core.List.{_++_};
 ghost use Prim.Native.Nat.{_≤_};
 ghost use lib.ListN.{length};
 ghost use Rattle.frames.specs.Frame.{sumSaid};
 ghost use Rattle.kinds.specs.Kinds.{Sound};
 ghost use Rattle.messages.specs.Rows.{firstOf};
-ghost use Rattle.refusals.specs.Refusals.{pointsFit, variablesFit, journalFits, recordsFit, axesFit, releaseFits, areaRows, earlyRows, frameRows, silentRows, toldAfter, backRows};
+ghost use Rattle.refusals.specs.Refusals.{pointsFit, variablesFit, journalFits, recordsFit, axesFit, releaseFits, areaRows, earlyRows, lateRows, toldAfter, backRows};
 
 // What a frame's tests before its message say: the refusal without a reply, or 0, and what is told of the sum.
 pub struct Hearing {
@@ -134,9 +135,9 @@ fn fits_release(release: u8) -> bool
 }
 
 // Tests 12, 7 and 8, by what the sum test said: the refusal, or 0.
-fn frame_refusal(sum: Sum, settings: Settings, frame: &[u8]) -> u16
+fn late_refusal(sum: Sum, settings: Settings, frame: &[u8]) -> u16
     requires { ⌜ (10 ≤ length (now frame)) × (sum ≡ sumSaid (settings .release) (now frame)) ⌝ }
-    ensures { λ r. ⌜ r ≡ firstOf (frameRows settings (now (frame .entry))) ⌝ }
+    ensures { λ r. ⌜ r ≡ firstOf (lateRows settings (now (frame .entry))) ⌝ }
 {
     match sum {
         Sum::True => {}
@@ -196,7 +197,8 @@ pub fn silent(
     journal: &[u8],
     kept: Kept,
 ) -> Hearing
-    ensures { λ r. ⌜ r .number ≡ firstOf (silentRows reply (now (frame .entry)) axes settings lengths (now (journal .entry)) kept) ⌝ }
+    ensures { λ r. ⌜ r .number
+        ≡ firstOf (earlyRows reply (now (frame .entry)) axes settings lengths (now (journal .entry)) kept ++ lateRows settings (now (frame .entry))) ⌝ }
     ensures { λ r. ⌜ r .sum
         ≡ toldAfter (firstOf (earlyRows reply (now (frame .entry)) axes settings lengths (now (journal .entry)) kept)) (settings .release) (now (frame .entry)) ⌝ }
 {
@@ -209,7 +211,7 @@ pub fn silent(
     }
     let sum = test_sum(settings.release, frame);
     Hearing {
-        number: frame_refusal(sum, settings, frame),
+        number: late_refusal(sum, settings, frame),
         sum: Told::Said(sum),
     }
 }

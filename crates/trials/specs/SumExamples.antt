@@ -1,42 +1,49 @@
--- The sum's three answers worked through by computing (02, f): what is told with each number, what meets the premises of demand 2's statements, and boards
--- that break these.
+-- The sum's three answers worked through by computing (02, f): what is told where the frame is accepted, where an earlier and where a later test refuses it,
+-- what meets the premises of demand 2's statements, and boards that break these.
 use Prim.Native.Nat.{ℕ}
 use Prim.Native.String.{String}
 use mathlib.Core.Path.{_≡_}
-use mathlib.Core.Bool.{Bool, true, false, cond, not, _&&_, _||_}
-use mathlib.Core.List.{List, []}
+use mathlib.Core.Bool.{Bool, true, false, cond, not, _&&_}
+use mathlib.Core.List.{List, [], _∷_}
 use lib.Dec.{eqb}
 use lib.ListN.{getD, replicate}
 use Rattle.digits.specs.Text.{text}
 use Rattle.frames.specs.declared.checks.Sum.the-variants.{True, SwitchedOff, Wrong}
 use Rattle.frames.specs.Frame.{scIn, sumOff, sumSaid, stationPasses}
 use Rattle.axes.specs.Records.{noAxes}
-use Rattle.messages.specs.Rows.{firstOf}
 use Rattle.calls.specs.declared.Told.{Told}
 use Rattle.calls.specs.declared.Told.the-variants.{Untested, Said}
-use Rattle.calls.specs.Calls.{Areas, Call, Outcome}
-use Rattle.refusals.specs.Refusals.{early}
-use Rattle.link.specs.Answer.{unanswered, answerOf, backOf}
-use Rattle.demands.specs.Refused.{SameError}
-use Rattle.demands.specs.History.{Conduct}
-use Rattle.demands.specs.SwitchedOff.{allowing, Off, AsBefore, Forbidden, OthersSame, SumTold}
-use Rattle.trials.specs.Cases.{blank, sendingTo, bench}
+use Rattle.calls.specs.Calls.{Sent, Call, Outcome, fresh}
+use Rattle.link.specs.Answer.{asked, unanswered, answerOf, backOf}
+use Rattle.demands.specs.Refused.{SameError, asksWrite}
+use Rattle.demands.specs.History.{Conduct, ours, frame, stepBack}
+use Rattle.demands.specs.Releases.{under}
+use Rattle.demands.specs.SwitchedOff.{allowing, Off, AsBefore, OffAsTrue, Forbidden, OthersSame, SumTold}
+use Rattle.trials.specs.Cases.{holding, blank, sendingTo, bench}
+use Rattle.trials.specs.Broken.{smallest, small}
 use Rattle.trials.specs.Useless.{honestBut}
 
 -- a frame to the bench with '@@' allowed or forbidden, its number and what it tells
 abbrev pub sends : Bool → String → Call
-sends unchecked frame = allowing unchecked (bench blank (text frame))
+sends unchecked f = allowing unchecked (bench blank (text f))
 
 abbrev pub Answer : Bool → String → ℕ → Told → Type 0
-Answer unchecked frame number told = (answerOf (sends unchecked frame) .number ≡ number) × (answerOf (sends unchecked frame) .sum ≡ told)
+Answer unchecked f number told = (answerOf (sends unchecked f) .number ≡ number) × (answerOf (sends unchecked f) .sum ≡ told)
 
 -- the same with either
 abbrev pub Both : String → ℕ → Told → Type 0
-Both frame number told = (unchecked : Bool) → Answer unchecked frame number told
+Both f number told = (unchecked : Bool) → Answer unchecked f number told
 
--- over areas or records that are refused
-abbrev pub over : Call → ℕ → Type 0
-over c number = (answerOf c .number ≡ number) × (answerOf c .sum ≡ Untested)
+-- '@@' forbidden, and a reply area, areas, axis records or a release that are refused
+abbrev pub refusedEarly : Call → ℕ → Type 0
+refusedEarly c number = (answerOf (allowing false c) .number ≡ number) × (answerOf (allowing false c) .sum ≡ Untested)
+
+abbrev pub axesLess : List ℕ → Call
+axesLess reply = record { sent = record { frame = text "!99208@@\r\n"; axes = noAxes; settings = sends true "" .sent .settings; reply = reply }; areas = blank }
+
+-- the lot code 0 for column 300, with '@@'
+abbrev pub writing : Bool → Sent
+writing unchecked = sends unchecked "!9924E0012C0130@@\r\n" .sent
 
 pub record SumExamples : Type 0 where
   -- a true SC, '@@' and a wrong SC
@@ -50,11 +57,14 @@ pub record SumExamples : Type 0 where
   pub seven-before-eight : Both "!9A2082D\r\n" 7 (Said Wrong)
   pub eight : Both "!9A20835\r\n" 8 (Said True)
   pub after-six : Both "!99208@@\r" 6 Untested × Both "!992082E" 6 Untested × Both "!99200123456789@@\r\n" 6 Untested
-  -- where 13, 5 and 1 refuse, neither
+  -- where 13, 5, 4, 2 and 1 refuse, neither
   pub untested :
-      over (record { sent = sendingTo 0x99 3 (text "!99208@@\r\n"); areas = blank }) 13
-      × over (record { sent = record { frame = text "!99208@@\r\n"; axes = noAxes; settings = sends true "" .sent .settings; reply = replicate 1024 0 }; areas = blank }) 5
-      × over (record { sent = record { frame = text "!992082E\r\n"; axes = noAxes; settings = sends true "" .sent .settings; reply = [] }; areas = blank }) 1
+      refusedEarly (record { sent = sendingTo 0x99 3 (text "!99208@@\r\n"); areas = blank }) 13 × refusedEarly (axesLess (replicate 1024 0)) 5
+      × refusedEarly (bench (fresh (holding 500) 20499) (text "!99208@@\r\n")) 4 × refusedEarly (bench (fresh (holding 0) 32768) (text "!99208@@\r\n")) 2
+      × refusedEarly (axesLess []) 1
+  -- an SC in small letters is true under release 2, and wrong under release 1
+  pub small-letters :
+      (answerOf (under 2 (sends false "!992082d\r\n")) .sum ≡ Said True) × (answerOf (under 1 (sends false "!992082d\r\n")) .sum ≡ Said Wrong)
   -- told where the message is refused: 101, 102, 103, 106 and 108
   pub later :
       Answer true "!99299@@\r\n" 101 (Said SwitchedOff) × Both "!9929937\r\n" 101 (Said True) × Answer true "!99208G@@\r\n" 102 (Said SwitchedOff)
@@ -63,8 +73,12 @@ pub record SumExamples : Type 0 where
   -- a write with '@@' where it is forbidden leaves all as it was; with a true SC it is done: column 300 is '0'
   pub not-written : answerOf (sends false "!9924E0012C0130@@\r\n") ≡ unanswered (Said SwitchedOff) 12 blank
   pub written : getD (answerOf (sends false "!9924E0012C013008\r\n") .areas .columns) 0 0 ≡ 0x30
-  -- the premises: '@@', and that nothing earlier refuses; another SC; an error reply whatever the setting
-  pub premises : Off (sends false "!99208@@\r\n") × (firstOf (early (sends false "!99208@@\r\n")) ≡ 0)
+  -- a history in which the setting changes: a write with '@@', the same where it is forbidden, and a step back, after which nothing stands
+  pub history :
+      small ours (frame (writing true) ∷ frame (writing false) ∷ []) .standing-writes ≡ writing true ∷ []
+  pub stepped-back : small ours (frame (writing true) ∷ frame (writing false) ∷ stepBack ∷ []) .areas ≡ smallest
+  -- the premises: '@@', and another SC; an error reply whatever the setting
+  pub is-sent : Off (sends false "!99208@@\r\n")
   pub not-off : Off (sends false "!992082D\r\n") → ⊥
   pub same-error : SameError (sends true "!9929937\r\n") (sends false "!9929937\r\n")
 
@@ -91,10 +105,19 @@ twelveLast =
     honestBut (λ c o.
     cond (eqb (o .number) 12 && not (stationPasses (c .sent .settings .release) (c .sent .settings .station) (c .sent .frame))) (numbering 8 o) o)
 
--- '@' once taken as switched off
+-- 12 tested first of all
+abbrev pub twelveFirst : Conduct
+twelveFirst = honestBut (λ c o. cond (sumOff (c .sent .frame) && not (c .sent .settings .unchecked)) (numbering 12 o) o)
+
+-- '@' once taken as switched off, where that is forbidden
 abbrev pub onceIsOff : Conduct
 onceIsOff =
-    honestBut (λ c o. cond (eqb (o .number) 7 && (eqb (getD (scIn (c .sent .frame)) 0 0) 0x40 && not (c .sent .settings .unchecked))) (numbering 12 o) o)
+    honestBut (λ c o.
+    cond (eqb (o .number) 7 && (eqb (getD (scIn (c .sent .frame)) 0 0) 0x40 && not (c .sent .settings .unchecked))) (numbering 12 (telling (Said SwitchedOff) o)) o)
+
+-- '@@' taken for queries alone
+abbrev pub offWritesNothing : Conduct
+offWritesNothing = honestBut (λ c o. cond (sumOff (c .sent .frame) && asksWrite (asked c)) (unanswered (o .sum) 7 (c .areas)) o)
 
 -- '@@' told as true, a wrong SC as untested, the sum told where 6 refused, and told only where the frame is accepted
 abbrev pub offAsTrue : Conduct
@@ -127,7 +150,9 @@ pub record SumBroken : Type 0 where
   pub allows-always : Forbidden allowsAlways → ⊥
   pub forbids-always : AsBefore forbidsAlways → ⊥
   pub twelve-last : Forbidden twelveLast → ⊥
+  pub twelve-first : Forbidden twelveFirst → ⊥
   pub once-is-off : TellsSum onceIsOff → ⊥
+  pub off-writes-nothing : OffAsTrue offWritesNothing → ⊥
   pub off-as-true : TellsSum offAsTrue → ⊥
   pub wrong-untested : TellsSum wrongUntested → ⊥
   pub told-at-six : TellsSum toldAtSix → ⊥

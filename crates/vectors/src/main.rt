@@ -3,11 +3,10 @@ use axes::AxisRecord;
 use axes::read_axes;
 use calls::Kept;
 use calls::Settings;
-use calls::Told;
+use calls::sum_code;
 use digits::wide;
 use finder::Found;
 use finder::find;
-use frames::checks::Sum;
 use io::print_decimal;
 use kinds::Firsts;
 use lent::answer_lent;
@@ -219,18 +218,6 @@ fn answer_frame(
     )
 }
 
-// 0 untested, 1 true, 2 switched off, 3 wrong.
-fn sum_code(told: Told) -> usize {
-    match told {
-        Told::Untested => 0,
-        Told::Said(sum) => match sum {
-            Sum::True => 1,
-            Sum::SwitchedOff => 2,
-            Sum::Wrong => 3,
-        },
-    }
-}
-
 // The numbers of an answer; the used length.
 fn say_answered(answered: Answered) -> usize {
     let after = answered.kept;
@@ -239,7 +226,7 @@ fn say_answered(answered: Answered) -> usize {
     say_number(answered.number as usize);
     say_number(answered.length);
     say_number(after.used);
-    say_number(sum_code(told));
+    say_number(sum_code(told) as usize);
     after.used
 }
 

@@ -1,5 +1,4 @@
-use mathlib.Core.Path.{_≡_, refl, sym, ap, _∙_}
-use native.Mathlib.Omega.{arith}
+use mathlib.Core.Path.{sym, _∙_}
 use Rattle.digits.proofs.Bools.{was-false, was-true}
 use Rattle.refusals.proofs.Rows.{early-1, early-area, early-5, early-13, early-6, early-0}
 use borrow.Author.Needs.{needs}

@@ -1,6 +1,6 @@
-use mathlib.Core.Path.{_≡_, refl, sym, ap, _∙_}
+use mathlib.Core.Path.{sym, ap, _∙_}
 use Rattle.calls.specs.declared.Told.the-variants.{Said}
-use Rattle.refusals.proofs.Rows.{silent-early, silent-long, silent-frame, told-untested, told-said}
+use Rattle.refusals.proofs.Rows.{silent-early, silent-long, silent-late, told-untested, told-said}
 use borrow.Author.Needs.{needs}
 use Rattle.refusals.proofs.silent.Statement.{statement}
 use Rattle.refusals.proofs.silent.Tie as tie
@@ -21,8 +21,8 @@ test-sum-requires c κs =
     let a = c .before .before .before .before .args in
     silent-long (a .lengths) (a .journal .now) (a .kept) (a .reply) (a .frame .now) (a .axes) (a .settings) (sym (c .before .early-refusal .ensures) ∙ c .if1 .left)
 
-frame-refusal-requires : tie.Need-frame-refusal-requires
-frame-refusal-requires c κs =
+late-refusal-requires : tie.Need-late-refusal-requires
+late-refusal-requires c κs =
     let a = c .before .before .before .before .before .args in (
       silent-long (a .lengths) (a .journal .now) (a .kept) (a .reply) (a .frame .now) (a .axes) (a .settings)
           (sym (c .before .before .early-refusal .ensures) ∙ c .before .if1 .left),
@@ -33,9 +33,9 @@ returns-2 : tie.Need-returns-2
 returns-2 c =
     let a = c .before .before .before .before .before .before .args in
     let e = sym (c .before .before .before .early-refusal .ensures) ∙ c .before .before .if1 .left in (
-      silent-frame (a .lengths) (a .journal .now) (a .kept) (a .reply) (a .frame .now) (a .axes) (a .settings) e (c .frame-refusal .ensures),
+      silent-late (a .lengths) (a .journal .now) (a .kept) (a .reply) (a .frame .now) (a .axes) (a .settings) e (c .late-refusal .ensures),
       ap Said (c .before .test-sum .ensures) ∙ sym (told-said (a .settings .release) (a .frame .now) e),
     )
 
 pub silent-spec : {M : Type 1} → statement M
-silent-spec = tie.close (tie.spec early-refusal-requires returns test-sum-requires frame-refusal-requires returns-2)
+silent-spec = tie.close (tie.spec early-refusal-requires returns test-sum-requires late-refusal-requires returns-2)

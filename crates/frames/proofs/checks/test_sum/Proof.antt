@@ -1,4 +1,4 @@
-use mathlib.Core.Path.{_≡_, refl, sym, ap, _∙_}
+use mathlib.Core.Path.{sym, _∙_}
 use Rattle.frames.proofs.Three.{said-true, said-off, said-wrong}
 use borrow.Author.Needs.{needs}
 use Rattle.frames.proofs.checks.test_sum.Statement.{statement}

@@ -1,10 +1,10 @@
-use mathlib.Core.Path.{_≡_, refl, sym, ap, _∙_}
+use mathlib.Core.Path.{sym, _∙_}
 use mathlib.Core.Logic.{⊎-elim}
 use Rattle.digits.proofs.Bools.{was-false, was-true}
-use Rattle.refusals.proofs.Rows.{frame-by}
+use Rattle.refusals.proofs.Rows.{late-by}
 use borrow.Author.Needs.{needs}
-use Rattle.refusals.proofs.frame_refusal.Statement.{statement}
-use Rattle.refusals.proofs.frame_refusal.Tie as tie
+use Rattle.refusals.proofs.late_refusal.Statement.{statement}
+use Rattle.refusals.proofs.late_refusal.Tie as tie
 
 enum-told : tie.Need-enum-told
 enum-told c = search needs
@@ -15,13 +15,13 @@ enum-told-2 c = search needs
 returns : tie.Need-returns
 returns c =
     let g = c .before .before .before .before .before in
-    sym (frame-by (g .args .settings) (g .args .frame .now) _ (g .pre .1) ∙ rw (c .before .before .enum-told2 .given .1, c .if1 .taken))
+    sym (late-by (g .args .settings) (g .args .frame .now) _ (g .pre .1) ∙ rw (c .before .before .enum-told2 .given .1, c .if1 .taken))
 
 enum-told-3 : tie.Need-enum-told-3
 enum-told-3 c = search needs
 
 returns-2 : tie.Need-returns-2
-returns-2 c = let g = c .before .before .before in sym (frame-by (g .args .settings) (g .args .frame .now) _ (g .pre .1) ∙ rw (c .enum-told3 .given .1))
+returns-2 c = let g = c .before .before .before in sym (late-by (g .args .settings) (g .args .frame .now) _ (g .pre .1) ∙ rw (c .enum-told3 .given .1))
 
 is-ours-requires : tie.Need-is-ours-requires
 is-ours-requires c κs = c .before .before .pre .0
@@ -30,7 +30,7 @@ returns-3 : tie.Need-returns-3
 returns-3 c =
     let g = c .before .before .before .before in
     sym
-    (frame-by (g .args .settings) (g .args .frame .now) _ (g .pre .1)
+    (late-by (g .args .settings) (g .args .frame .now) _ (g .pre .1)
     ∙ ⊎-elim
     (λ w. rw (w .1 .given .1, was-false (c .before .is-ours .ensures) (c .if2 .taken)))
     (λ w. rw (w .1 .given .1, w .3 .left, was-false (c .before .is-ours .ensures) (c .if2 .taken)))
@@ -40,14 +40,14 @@ returns-4 : tie.Need-returns-4
 returns-4 c =
     let g = c .before .before .before .before in
     sym
-    (frame-by (g .args .settings) (g .args .frame .now) _ (g .pre .1)
+    (late-by (g .args .settings) (g .args .frame .now) _ (g .pre .1)
     ∙ ⊎-elim
     (λ w. rw (w .1 .given .1, was-true (c .before .is-ours .ensures) (c .if2 .left)))
     (λ w. rw (w .1 .given .1, w .3 .left, was-true (c .before .is-ours .ensures) (c .if2 .left)))
     (c .before .before .match .came))
 
-pub frame-refusal-spec : {M : Type 1} → statement M
-frame-refusal-spec =
+pub late-refusal-spec : {M : Type 1} → statement M
+late-refusal-spec =
     tie.close
     (tie.spec
     enum-told

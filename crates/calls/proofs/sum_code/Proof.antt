@@ -1,6 +1,6 @@
 use borrow.Author.Needs.{needs}
-use Rattle.board.proofs.sum_code.Statement.{statement}
-use Rattle.board.proofs.sum_code.Tie as tie
+use Rattle.calls.proofs.sum_code.Statement.{statement}
+use Rattle.calls.proofs.sum_code.Tie as tie
 
 enum-told : tie.Need-enum-told
 enum-told c = search needs
