@@ -323,13 +323,14 @@ static int sums_failed(const char *what)
 }
 
 /* One command whose number, reply and sum are known. */
-static int tells(const char *command, enum cabinet_refusal number, const char *expected, enum cabinet_sum sum)
+static int tells(const char *command, enum cabinet_refusal number, const char *expected,
+                 enum cabinet_sum sum)
 {
     board.sum = GUARD;
     return answers(command, number, expected) && board.sum == sum;
 }
 
-/* What is the same whether '@@' is allowed or not; told with a later refusal, and not with an earlier one. */
+/* What is the same whether '@@' is allowed or not: told with a later refusal, not with an earlier one. */
 static int tells_other_sums(void)
 {
     return tells("!992082D\r\n", CABINET_ACCEPTED, "#99208000BF\r\n", CABINET_SUM_TRUE) &&
@@ -346,16 +347,18 @@ static int play_sums(void)
 {
     static const char write[] = "!9924E0012C0130@@\r\n";
     start_fresh();
-    if (!tells_other_sums() || !tells("!99208@@\r\n", CABINET_ACCEPTED, "#99208000BF\r\n", CABINET_SUM_SWITCHED_OFF) ||
+    if (!tells_other_sums() ||
+        !tells("!99208@@\r\n", CABINET_ACCEPTED, "#99208000BF\r\n", CABINET_SUM_SWITCHED_OFF) ||
         !tells("!9A208@@\r\n", CABINET_REFUSED_STATION, "", CABINET_SUM_SWITCHED_OFF) ||
         !tells("!99299@@\r\n", CABINET_REFUSED_MESSAGE, "&991012A\r\n", CABINET_SUM_SWITCHED_OFF))
         return sums_failed("'@@' allowed");
     for (board.forbid_unchecked = 1; board.forbid_unchecked != 0; board.forbid_unchecked <<= 1)
-        if (!tells_other_sums() || !tells("!9A208@@\r\n", CABINET_REFUSED_UNCHECKED, "", CABINET_SUM_SWITCHED_OFF) ||
-            !tells(write, CABINET_REFUSED_UNCHECKED, "", CABINET_SUM_SWITCHED_OFF) || !areas_are(0))
+        if (!tells_other_sums() ||
+            !tells("!9A208@@\r\n", CABINET_REFUSED_SWITCHED_OFF, "", CABINET_SUM_SWITCHED_OFF) ||
+            !tells(write, CABINET_REFUSED_SWITCHED_OFF, "", CABINET_SUM_SWITCHED_OFF) || !areas_are(0))
             return sums_failed("'@@' forbidden");
-    if (!tells(write, CABINET_ACCEPTED, "#9924E40\r\n", CABINET_SUM_SWITCHED_OFF) || !steps_back(CABINET_ACCEPTED) ||
-        board.sum != CABINET_SUM_UNTESTED || !areas_are(0))
+    if (!tells(write, CABINET_ACCEPTED, "#9924E40\r\n", CABINET_SUM_SWITCHED_OFF) ||
+        !steps_back(CABINET_ACCEPTED) || board.sum != CABINET_SUM_UNTESTED || !areas_are(0))
         return sums_failed("written and stepped back");
     return 0;
 }

@@ -5,9 +5,9 @@
  * (cabinet_answer_frame) and the service panel's step back (cabinet_take_back). The last two are made
  * on a struct cabinet, which has all that they need by name; below them stand the archive's own calls
  * on numbers and byte areas, cabinet_answer and cabinet_step_back. What they promise is document 01's
- * and, of integer variables and flags (request a), of test calls with line ends in them (request c), of '@@'
- * forbidden and told (request f) and of small letters (request l), document 02's; section names below are
- * document 01's.
+ * and, of integer variables and flags (request a), of test calls with line ends in them (request c), of
+ * '@@' forbidden and told (request f) and of small letters (request l), document 02's; section names below
+ * are document 01's.
  *
  * Link with libboard.a. C99 or later, or C++11 or later.
  *
@@ -43,10 +43,11 @@
  * what was sent; the ten bytes of a test call (200H) are any under both releases, and come back as sent. A
  * frame that release 1 accepts has the same answer under release 2. The release may change from call to call.
  *
- * A fourth says whether a frame may carry '@@' for its SC and is then not checked. Where it is forbidden, such a
- * frame is refused (12) and changes nothing; every other frame has the same answer either way. It is
- * cabinet_answer's unchecked, where 0 forbids, and struct cabinet's forbid_unchecked, where 0 allows, as ever.
- * It too may change from call to call.
+ * A fourth says whether a frame may carry '@@' for its SC and is then not checked. Where that is forbidden,
+ * such a frame changes nothing and is refused, with 12 where no earlier test refuses it; every other frame
+ * has the same answer either way. Mind the two names: cabinet_answer's is unchecked, and 0 forbids; struct
+ * cabinet's is forbid_unchecked, and 0 allows, so that a host which doesn't set it stays as it is. This
+ * setting too may change from call to call.
  *
  *
  * OWNERSHIP
@@ -56,8 +57,8 @@
  *   - Every pointer points to as many bytes as its length says (or to one number) and is never null,
  *     not even where the length is 0.
  *   - An area or number that a call may write (points, columns, integers, flags, journal, reply, *used,
- *     *reply_length, *sum, *start, *length, *drop) overlaps no other one handed to the same call. The frame may
- *     be a part of the received bytes; it is no part of a struct cabinet.
+ *     *reply_length, *sum, *start, *length, *drop) overlaps no other one handed to the same call. The frame
+ *     may be a part of the received bytes; it is no part of a struct cabinet.
  *   - Lengths and bytes may be any: a wrong length, a spoiled byte or a damaged frame is refused as
  *     the table says, and nothing undefined is done.
  *   - For the step back to give back what was there: start fresh, use the same areas throughout, leave
@@ -105,12 +106,16 @@
  *
  * THE SERVICE LOG
  *
- * With every answer comes what the sum test said of the frame (enum cabinet_sum), also where the frame is then
- * refused. Which frames used '@@' is logged in three lines, as the loop below has them:
+ * With every answer comes what the sum test said of the frame (enum cabinet_sum), also where the frame is
+ * then refused. Frames that used '@@' are logged in three lines, as the loop below has them:
  *
  *   uint16_t number = cabinet_answer_frame(&board, line + start, length);
  *   if (board.sum == CABINET_SUM_SWITCHED_OFF)
  *       service_log(number, line + start, length);
+ *
+ * The number says what became of the frame: 0 where it was done, 12 where '@@' is forbidden, 8 or 101 to 108
+ * where something else was wrong. A frame that an earlier test refuses (1 to 6, 10, 13) is not tested, and
+ * so not logged, whatever its SC.
  *
  *
  * A HOST'S LOOP
@@ -130,7 +135,7 @@
  *       .points = points, .points_length = sizeof points,
  *       .journal = journal, .journal_length = sizeof journal,
  *       .fitted = 0xFF, .station = 0x99, .release = CABINET_SMALL_LETTERS_TOO,
- *       .first_integer = 200, .first_flag = 600                      // all else is zero: fresh, '@@' allowed
+ *       .first_integer = 200, .first_flag = 600                      // else zero: fresh, '@@' allowed
  *   };
  *
  *   int main(void)
@@ -182,8 +187,9 @@ extern "C" {
  * Version 3: cabinet_receive takes 20 bytes as a test call, so line ends may be among its ten bytes; before,
  * it cut the frame at the first. A 200H frame of another length is refused 6, without a reply; before, 103.
  * Version 4: the cabinet release, in cabinet_answer behind the station and in struct cabinet; refusal 13.
- * Version 5: whether '@@' is allowed, in cabinet_answer behind the release and in struct cabinet; refusal 12; what
- * the sum test said, cabinet_answer's last parameter and in struct cabinet.
+ * Version 5: whether '@@' is allowed, in cabinet_answer behind the release and in struct cabinet; refusal 12;
+ * what the sum test said, cabinet_answer's last parameter and in struct cabinet. So cabinet_answer has two
+ * parameters more; a host with a struct cabinet stays as it is.
  */
 #define CABINET_VERSION 5
 
@@ -222,10 +228,10 @@ enum cabinet_release {
 
 /* What the sum test said of a frame. */
 enum cabinet_sum {
-    CABINET_SUM_UNTESTED = 0,     /* an earlier test refused the call */
-    CABINET_SUM_TRUE = 1,         /* the SC is that of the bytes before it */
-    CABINET_SUM_SWITCHED_OFF = 2, /* '@@' stands for it */
-    CABINET_SUM_WRONG = 3         /* anything else */
+    CABINET_SUM_UNTESTED = 0,     /* an earlier test refused the call: nothing is said of the SC */
+    CABINET_SUM_TRUE = 1,         /* the SC is that of the bytes before it, in digits of this release */
+    CABINET_SUM_SWITCHED_OFF = 2, /* it is '@@' */
+    CABINET_SUM_WRONG = 3         /* anything else: '@' once, or small letters under release 1, too */
 };
 
 /* What the other calls answer, in the order tested: the table "Refusal numbers" above. */
@@ -239,7 +245,7 @@ enum cabinet_refusal {
     CABINET_REFUSED_AXES = 5,
     CABINET_REFUSED_RELEASE = 13,
     CABINET_REFUSED_FRAME = 6,
-    CABINET_REFUSED_UNCHECKED = 12,
+    CABINET_REFUSED_SWITCHED_OFF = 12,
     CABINET_REFUSED_SC = 7,
     CABINET_REFUSED_STATION = 8,
     CABINET_REFUSED_NO_WRITE_LEFT = 9,
@@ -297,7 +303,8 @@ uint8_t cabinet_receive(const uint8_t *received, size_t received_length,
  *   fitted          the fitted axes, bit 0 for axis 1; not 0
  *   station         the board's station, two digits in a frame (99H for "99")
  *   release         the cabinet release: CABINET_CAPITALS_ONLY (1) or CABINET_SMALL_LETTERS_TOO (2)
- *   unchecked       0 forbids '@@' for an SC (refusal 12), any other value allows it
+ *   unchecked       0 forbids '@@' for an SC (refusal 12), any other value allows it; the opposite of
+ *                   struct cabinet's forbid_unchecked
  *   first_integer   the number of the first integer variable
  *   first_flag      the number of the first flag
  *   reply, reply_area_length      the reply area; bytes beyond the reply stay
@@ -403,12 +410,12 @@ struct cabinet {
     /* what the last call answered */
     uint8_t reply[CABINET_REPLY_BYTES];
     size_t reply_length; /* so many bytes of it; 0 where there is no reply */
-    uint8_t sum;         /* enum cabinet_sum; CABINET_SUM_UNTESTED after a step back */
+    uint8_t sum;         /* enum cabinet_sum; CABINET_SUM_UNTESTED at fresh and after a step back */
 };
 
 /*
- * Answers one frame, '!' to CR LF, as cabinet_answer does, under release 1 where board->release is 0, and with
- * '@@' allowed where board->forbid_unchecked is 0. The reply is the first board->reply_length bytes of
+ * Answers one frame, '!' to CR LF, as cabinet_answer does, under release 1 where board->release is 0, and
+ * with '@@' allowed where board->forbid_unchecked is 0. The reply is the first board->reply_length bytes of
  * board->reply, and board->sum is what the sum test said. Returns CABINET_ACCEPTED or the refusal number.
  */
 static inline uint16_t cabinet_answer_frame(struct cabinet *board,
