@@ -63,7 +63,8 @@ allowed h checked = checked || h .settings .unchecked
 abbrev pub asking : Areas → Sent → Bool → List ℕ → Call
 asking a h checked asked = callOf (commandOf checked (h .settings .station) asked) (h .axes) (h .settings) (h .reply) a
 
--- asked this over areas, by any such host, with a true SC or with '@@' where that is allowed, a board accepts it ("An accepted call has number 0") and says that
+-- asked this over areas, by any such host, with a true SC or with '@@' where that is allowed, a board accepts it ("An accepted call has number 0")
+-- and says that
 pub record Says (board : Conduct) (a : Areas) (asked said : List ℕ) : Type 0 where
   pub number : (h : Sent) → Host h → (checked : Bool) → allowed h checked ≡ true → board .answer (asking a h checked asked) .number ≡ 0
   pub text :

@@ -46,8 +46,8 @@ pub record EitherSize (h : Sent) (checked : Bool) (station said sc plain : List 
   pub test-call : take 3 said ≡ text "200" → plain ≡ said
   pub other : (take 3 said ≡ text "200" → ⊥) → plain ≡ capitals said
 
--- "release 2, either": such a frame is answered as the command that says it in capitals, with a true SC or '@@' as it has: number, reply, areas and what is
--- told of the sum
+-- "release 2, either": such a frame is answered as the command that says it in capitals, with a true SC or '@@' as it has: number, reply, areas and
+-- what is told of the sum
 abbrev pub Either : Conduct → Type 0
 Either board =
     (a : Areas) (h : Sent) → h .settings .release ≡ 2 → (checked : Bool) (station said sc plain : List ℕ) → EitherSize h checked station said sc plain

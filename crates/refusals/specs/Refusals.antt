@@ -1,5 +1,5 @@
--- Document 01, "Refusal numbers, in the order tested", and document 02, requests a, c, f and l: 1 to 10, 12 and 13 here, 101 to 108 by `askedRows` of messages.
--- Nothing else decides a number.
+-- Document 01, "Refusal numbers, in the order tested", and document 02, requests a, c, f and l: 1 to 10, 12 and 13 here, 101 to 108 by
+-- `askedRows` of messages. Nothing else decides a number.
 use Prim.Native.Nat.{ℕ, _+_, _*_, _%_}
 use mathlib.Core.Bool.{Bool, true, cond, not, _&&_, _||_}
 use mathlib.Core.List.{List, [], _∷_, _++_}

@@ -1,4 +1,5 @@
-// The tests behind the refusals without a reply, and the step back's (document 01, "Refusal numbers, in the order tested"; document 02, a: 10; f: 12; l: 13).
+// The tests behind the refusals without a reply, and the step back's (document 01, "Refusal numbers, in the order tested"; document 02, a: 10; f: 12;
+// l: 13).
 use axes::Axes;
 use axes::AxisRecord;
 use calls::Kept;

@@ -25,7 +25,8 @@ use Rattle.trials.specs.Cases.{blank, bench, columnsHolding}
 
 -- a 208H to the bench with its axis records as a lent run
 abbrev pub lentBench : List AxisRecord → Call
-lentBench records = callOf (text "!99208@@\r\n") (lentAxes records) (record { station = 0x99; release = 1; unchecked = true; fitted = 0xFF }) (replicate 1024 0) blank
+lentBench records =
+    callOf (text "!99208@@\r\n") (lentAxes records) (record { station = 0x99; release = 1; unchecked = true; fitted = 0xFF }) (replicate 1024 0) blank
 
 -- the bench fresh with other first numbers, and with a journal of so many bytes
 abbrev pub numbering : ℕ → ℕ → ℕ → Areas

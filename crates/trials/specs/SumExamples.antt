@@ -1,5 +1,5 @@
--- The sum's three answers worked through by computing (02, f): what is told where the frame is accepted, where an earlier and where a later test refuses it,
--- what meets the premises of demand 2's statements, and boards that break these.
+-- The sum's three answers worked through by computing (02, f): what is told where the frame is accepted, where an earlier and where a later test
+-- refuses it, what meets the premises of demand 2's statements, and boards that break these.
 use Prim.Native.Nat.{ℕ}
 use Prim.Native.String.{String}
 use mathlib.Core.Path.{_≡_}
@@ -13,7 +13,7 @@ use Rattle.frames.specs.Frame.{scIn, sumOff, sumSaid, stationPasses}
 use Rattle.axes.specs.Records.{noAxes}
 use Rattle.calls.specs.declared.Told.{Told}
 use Rattle.calls.specs.declared.Told.the-variants.{Untested, Said}
-use Rattle.calls.specs.Calls.{Sent, Call, Outcome, fresh}
+use Rattle.calls.specs.Calls.{Sent, Call, Outcome, callOf, fresh}
 use Rattle.link.specs.Answer.{asked, unanswered, answerOf, backOf}
 use Rattle.demands.specs.Refused.{SameError, asksWrite}
 use Rattle.demands.specs.History.{Conduct, ours, frame, stepBack}
@@ -39,7 +39,7 @@ abbrev pub refusedEarly : Call → ℕ → Type 0
 refusedEarly c number = (answerOf (allowing false c) .number ≡ number) × (answerOf (allowing false c) .sum ≡ Untested)
 
 abbrev pub axesLess : List ℕ → Call
-axesLess reply = record { sent = record { frame = text "!99208@@\r\n"; axes = noAxes; settings = sends true "" .sent .settings; reply = reply }; areas = blank }
+axesLess reply = callOf (text "!99208@@\r\n") noAxes (sends true "" .sent .settings) reply blank
 
 -- the lot code 0 for column 300, with '@@'
 abbrev pub writing : Bool → Sent
@@ -113,7 +113,8 @@ twelveFirst = honestBut (λ c o. cond (sumOff (c .sent .frame) && not (c .sent .
 abbrev pub onceIsOff : Conduct
 onceIsOff =
     honestBut (λ c o.
-    cond (eqb (o .number) 7 && (eqb (getD (scIn (c .sent .frame)) 0 0) 0x40 && not (c .sent .settings .unchecked))) (numbering 12 (telling (Said SwitchedOff) o)) o)
+    cond (eqb (o .number) 7 && (eqb (getD (scIn (c .sent .frame)) 0 0) 0x40 && not (c .sent .settings .unchecked)))
+    (numbering 12 (telling (Said SwitchedOff) o)) o)
 
 -- '@@' taken for queries alone
 abbrev pub offWritesNothing : Conduct

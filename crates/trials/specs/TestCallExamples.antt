@@ -61,7 +61,8 @@ firstAlone isHead received =
 abbrev pub lengthByMessage : Conduct
 lengthByMessage =
     honestBut (λ c o.
-    cond (hasTestID (c .sent .frame) && eqb (o .number) 6) (record { number = 103; text = errorOf (c .sent .settings .station) 103; areas = o .areas; sum = o .sum }) o)
+    cond (hasTestID (c .sent .frame) && eqb (o .number) 6)
+    (record { number = 103; text = errorOf (c .sent .settings .station) 103; areas = o .areas; sum = o .sum }) o)
 
 -- document 01's finder cuts a test call with line ends, whole or not all there; one that skips none; one that takes station bytes CR LF for a test
 -- call's; a board that refuses all, one with a constant reply, and one that gives 103
