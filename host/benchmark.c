@@ -285,7 +285,7 @@ static void close_frame(size_t from, unsigned off)
 static void compare(const struct board *one, const struct board *other)
 {
     if (one->used != other->used || one->reply_length != other->reply_length || one->sum != other->sum)
-        fail("another used length or reply's length");
+        fail("another used length, reply's length or sum");
     if (one->start != other->start || one->length != other->length || one->drop != other->drop)
         fail("another place was found");
     if (memcmp(one->points, other->points, sizeof one->points) != 0)

@@ -510,7 +510,7 @@ static uint16_t judge_flag(struct asked *asked, size_t first, size_t last)
     return asked->content[6] == '0' || asked->content[6] == '1' ? 0 : 108;
 }
 
-/* 101 to 108; 0 where none holds. `digits` is what test 7 found of the content. */
+/* 101 to 108; 0 where none holds. `digits` is what the sum test found of the content. */
 static uint16_t judge(struct asked *asked, unsigned digits, const struct areas *areas, uint8_t fitted)
 {
     if (asked->message == UNKNOWN)

@@ -21,8 +21,8 @@ pub enum Asked {
     Change { program: u32, run: Run, bytes: Vec<u8> },
 }
 
-/// Reads a frame that passed tests 6 to 8: its message ID in capitals, and what it asks; Err is the
-/// refusal, the earliest that holds.
+/// Reads a frame that passed the tests without a reply: its message ID in capitals, and what it asks;
+/// Err is the refusal, the earliest that holds.
 pub(crate) fn ask(
     frame: &[u8],
     kinds: &Kinds,

@@ -160,7 +160,7 @@ fn number_6_test_calls_of_another_length() {
             }
         }
     }
-    // Of 20 bytes it has the right shape, and the tests 7 and 8 look at it.
+    // Of 20 bytes it has the right shape, and the sum test and test 8 look at it.
     let with = |frame: Vec<u8>| {
         let mut call = Call::good("208");
         call.frame = frame;

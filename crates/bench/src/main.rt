@@ -26,7 +26,8 @@ fn say(reply: &[u8], length: usize) {
     }
 }
 
-// One frame answered, with station 99H, release 1, all eight axes and zero records, integers from 200 and flags from 600 on; the journal's used length.
+// One frame answered, with station 99H, release 1, '@@' allowed, all eight axes and zero records, integers from 200 and flags from 600 on; the journal's
+// used length.
 fn serve(
     frame: &[u8],
     points: &mut [u8],

@@ -23,7 +23,7 @@ use Rattle.messages.specs.declared.Asked.the-variants.{Refused, Order}
 use Rattle.messages.specs.Asked.{askedOf, judged, numberGiven}
 use Rattle.calls.specs.Calls.{Areas, Sent, Call, callOf, lengthsOf, areaIn, written}
 use Rattle.refusals.specs.Refusals.{axesFit, releaseFits, silentOf}
-use Rattle.refusals.proofs.Rows.{areaNumber, lateNumber, earlyNumber, early-rows, silent-is, call-passed, same-told-after}
+use Rattle.refusals.proofs.Rows.{forbidden, areaNumber, lateNumber, earlyNumber, early-rows, silent-is, call-passed, same-told-after}
 use Rattle.queries.specs.Replies.{sameText, axesText}
 use Rattle.orders.specs.Orders.{rest, writes, newBytes, saidBy}
 use Rattle.link.specs.Answer.{held, asked, textOf, areasAfter, answerOf}
@@ -31,7 +31,6 @@ use Rattle.link.proofs.Answering.{silent-answer, heard-answer}
 use Rattle.demands.specs.History.{ours}
 use Rattle.demands.specs.TestCalls.{handed}
 use Rattle.demands.proofs.Commands.{testFits, framed, is-message, shape-is, is-content, too-short, message-of}
-use Rattle.refusals.proofs.Rows.{forbidden}
 use Rattle.demands.specs.SwitchedOff.{butSum}
 use Rattle.demands.proofs.Refused.{told-is}
 

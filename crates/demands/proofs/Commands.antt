@@ -116,7 +116,7 @@ module _ (x y : ℕ) (said sc : List ℕ) (two : length sc ≡ 2) where
 abbrev pub summedBy : Bool → Sum
 summedBy checked = cond checked True SwitchedOff
 
--- a frame that passes the tests 6 to 8 of a station under a release, 12 where '@@' is allowed, with what it says
+-- a frame that passes 6, 7 and 8 of a station under a release, and 12 where its SC is true or '@@' is allowed, with what it says
 pub record Heard (release station : ℕ) (checked : Bool) (said frame : List ℕ) : Type 0 where
   pub has-shape : shaped frame ≡ true
   pub has-sum : sumSaid release frame ≡ summedBy checked

@@ -29,7 +29,7 @@ allowing unchecked c =
     callOf (c .sent .frame) (c .sent .axes) (record { station = s .station; release = s .release; unchecked = unchecked; fitted = s .fitted })
     (c .sent .reply) (c .areas)
 
--- the refusals without a reply as they were before: 1 to 6, 10 and 13, then 7, "SC is neither true nor '@@'", and 8
+-- the refusals without a reply as they were before: 1 to 6, 10 and 13, then 7, "SC neither true nor '@@'", and 8
 abbrev pub silentBefore : Call → ℕ
 silentBefore c =
     let s = c .sent .settings in

@@ -1,4 +1,4 @@
--- Document 01, "Frame", and of its refusal table test 6, the sum test behind 12 and 7, and test 8, with document 02, requests c, f and l;
+-- Document 01, "Frame", and of its refusal table test 6, the sum test for 12 and 7, and test 8, with document 02, requests c, f and l;
 -- source document 000, sections 3 and 4-3-1.
 use Prim.Native.Nat.{ℕ, _+_, _-_, _/_, _%_}
 use mathlib.Core.Bool.{Bool, true, false, cond, not, _&&_, _||_}

@@ -87,7 +87,7 @@ pub fn is_sum_off(frame: &[u8]) -> bool
     frame[n + 1] == 0x40
 }
 
-// The sum test, behind 12 and 7: the SC is true, '@@', or neither.
+// The sum test, by which 12 and 7 are given: the SC is true, '@@', or neither.
 pub fn test_sum(release: u8, frame: &[u8]) -> Sum
     requires { ⌜ 10 ≤ length (now frame) ⌝ }
     ensures { λ r. ⌜ r ≡ sumSaid release (now (frame .entry)) ⌝ }

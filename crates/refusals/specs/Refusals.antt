@@ -82,11 +82,12 @@ lateRows settings frame =
     ∷ (8 when (not (stationPasses (settings .release) (settings .station) frame)))
     ∷ []
 
--- a frame's refusals without a reply
+-- those of a call before the sum is tested
 abbrev pub early : Call → List Row
 early c =
     earlyRows (length (c .sent .reply)) (c .sent .frame) (c .sent .axes) (c .sent .settings) (lengthsOf (c .areas)) (c .areas .journal) (c .areas .kept)
 
+-- and all of a frame's refusals without a reply
 abbrev pub silent : Call → List Row
 silent c = early c ++ lateRows (c .sent .settings) (c .sent .frame)
 

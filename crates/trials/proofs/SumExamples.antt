@@ -50,7 +50,10 @@ sum-broken =
       forbids-always = λ e. let f : _≡_ {A = ℕ} 12 0 = ap (λ (b : Before). b .number) (e (sends true "!99208@@\r\n")) in omega (arith, f);
       twelve-last = λ e. let f : _≡_ {A = ℕ} 8 12 = ap (λ (o : Outcome). o .number) (e (sends true "!9A208@@\r\n") refl) in omega (arith, f);
       twelve-first = λ e. let f : _≡_ {A = ℕ} 12 6 = ap (λ (o : Outcome). o .number) (e (sends true "!9208@@\r\n") refl) in omega (arith, f);
-      once-is-off = λ e. let f : _≡_ {A = ℕ} 2 3 = ap sumCode (e (sends false "!99208@D\r\n") .tested refl) in omega (arith, f);
+      once-is-off = (
+        λ e. let f : _≡_ {A = ℕ} 0 7 = ap (λ (b : Before). b .number) (e (sends true "!99208@D\r\n")) in omega (arith, f),
+        λ e. let f : _≡_ {A = ℕ} 2 3 = ap sumCode (e (sends false "!99208@D\r\n") .tested refl) in omega (arith, f),
+      );
       off-writes-nothing = λ e.
           let f : _≡_ {A = ℕ} 7 0 = ap (λ (b : Before). b .number) (e blank (sends true "" .sent) refl (text "24E0012C0130")) in
           omega (arith, f);

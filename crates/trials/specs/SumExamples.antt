@@ -11,10 +11,11 @@ use Rattle.digits.specs.Text.{text}
 use Rattle.frames.specs.declared.checks.Sum.the-variants.{True, SwitchedOff, Wrong}
 use Rattle.frames.specs.Frame.{scIn, sumOff, sumSaid, stationPasses}
 use Rattle.axes.specs.Records.{noAxes}
+use Rattle.messages.specs.Asked.{numberGiven}
 use Rattle.calls.specs.declared.Told.{Told}
 use Rattle.calls.specs.declared.Told.the-variants.{Untested, Said}
 use Rattle.calls.specs.Calls.{Sent, Call, Outcome, callOf, fresh}
-use Rattle.link.specs.Answer.{asked, unanswered, answerOf, backOf}
+use Rattle.link.specs.Answer.{asked, textOf, areasAfter, unanswered, answerOf, backOf}
 use Rattle.demands.specs.Refused.{SameError, asksWrite}
 use Rattle.demands.specs.History.{Conduct, ours, frame, stepBack}
 use Rattle.demands.specs.Releases.{under}
@@ -57,7 +58,7 @@ pub record SumExamples : Type 0 where
   pub seven-before-eight : Both "!9A2082D\r\n" 7 (Said Wrong)
   pub eight : Both "!9A20835\r\n" 8 (Said True)
   pub after-six : Both "!99208@@\r" 6 Untested × Both "!992082E" 6 Untested × Both "!99200123456789@@\r\n" 6 Untested
-  -- where 13, 5, 4, 2 and 1 refuse, neither
+  -- nor where 13, 5, 4, 2 and 1 refuse
   pub untested :
       refusedEarly (record { sent = sendingTo 0x99 3 (text "!99208@@\r\n"); areas = blank }) 13 × refusedEarly (axesLess (replicate 1024 0)) 5
       × refusedEarly (bench (fresh (holding 500) 20499) (text "!99208@@\r\n")) 4 × refusedEarly (bench (fresh (holding 0) 32768) (text "!99208@@\r\n")) 2
@@ -109,12 +110,15 @@ twelveLast =
 abbrev pub twelveFirst : Conduct
 twelveFirst = honestBut (λ c o. cond (sumOff (c .sent .frame) && not (c .sent .settings .unchecked)) (numbering 12 o) o)
 
--- '@' once taken as switched off, where that is forbidden
+-- '@' once, before a digit, taken as switched off
 abbrev pub onceIsOff : Conduct
 onceIsOff =
     honestBut (λ c o.
-    cond (eqb (o .number) 7 && (eqb (getD (scIn (c .sent .frame)) 0 0) 0x40 && not (c .sent .settings .unchecked)))
-    (numbering 12 (telling (Said SwitchedOff) o)) o)
+    cond (eqb (o .number) 7 && eqb (getD (scIn (c .sent .frame)) 0 0) 0x40)
+    (cond (c .sent .settings .unchecked)
+    (record { number = numberGiven (asked c); text = textOf c (asked c); areas = areasAfter c (asked c); sum = Said SwitchedOff })
+    (numbering 12 (telling (Said SwitchedOff) o)))
+    o)
 
 -- '@@' taken for queries alone
 abbrev pub offWritesNothing : Conduct
@@ -152,7 +156,7 @@ pub record SumBroken : Type 0 where
   pub forbids-always : AsBefore forbidsAlways → ⊥
   pub twelve-last : Forbidden twelveLast → ⊥
   pub twelve-first : Forbidden twelveFirst → ⊥
-  pub once-is-off : TellsSum onceIsOff → ⊥
+  pub once-is-off : (AsBefore onceIsOff → ⊥) × (TellsSum onceIsOff → ⊥)
   pub off-writes-nothing : OffAsTrue offWritesNothing → ⊥
   pub off-as-true : TellsSum offAsTrue → ⊥
   pub wrong-untested : TellsSum wrongUntested → ⊥

@@ -23,7 +23,7 @@ pub fn add(script: &mut Script) {
 const ALLOWED: Settings = SETTINGS;
 const FORBIDDEN: Settings = Settings { unchecked: 0, ..SETTINGS };
 
-/// A query, a write of each kind, and a list, of two points.
+/// All twelve messages, each accepted on a board of two points.
 const MESSAGES: [&str; 12] = [
     "2000123456789",
     "208",
