@@ -8,7 +8,7 @@ use lib.ListN.{getD}
 use Rattle.digits.specs.Text.{text}
 use Rattle.calls.specs.Calls.{Outcome, sumCode}
 use Rattle.demands.specs.SwitchedOff.{Off, Before}
-use Rattle.trials.specs.Cases.{blank}
+use Rattle.trials.specs.Broken.{smallest}
 use Rattle.trials.specs.SumExamples.{sends, SumExamples, SumBroken}
 use Rattle.trials.proofs.Computing.{a-call}
 
@@ -55,7 +55,7 @@ sum-broken =
         λ e. let f : _≡_ {A = ℕ} 2 3 = ap sumCode (e (sends false "!99208@D\r\n") .tested refl) in omega (arith, f),
       );
       off-writes-nothing = λ e.
-          let f : _≡_ {A = ℕ} 7 0 = ap (λ (b : Before). b .number) (e blank (sends true "" .sent) refl (text "24E0012C0130")) in
+          let f : _≡_ {A = ℕ} 7 0 = ap (λ (b : Before). b .number) (e smallest (sends true "" .sent) refl (text "24E0012C0130")) in
           omega (arith, f);
       off-as-true = λ e. let f : _≡_ {A = ℕ} 1 2 = ap sumCode (e (sends true "!99208@@\r\n") .tested refl) in omega (arith, f);
       wrong-untested = λ e. let f : _≡_ {A = ℕ} 0 3 = ap sumCode (e (sends true "!992082E\r\n") .tested refl) in omega (arith, f);

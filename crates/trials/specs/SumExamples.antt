@@ -20,13 +20,13 @@ use Rattle.demands.specs.Refused.{SameError, asksWrite}
 use Rattle.demands.specs.History.{Conduct, ours, frame, stepBack}
 use Rattle.demands.specs.Releases.{under}
 use Rattle.demands.specs.SwitchedOff.{allowing, Off, AsBefore, OffAsTrue, Forbidden, OthersSame, SumTold}
-use Rattle.trials.specs.Cases.{holding, blank, sendingTo, bench}
+use Rattle.trials.specs.Cases.{holding, sendingTo, bench}
 use Rattle.trials.specs.Broken.{smallest, small}
 use Rattle.trials.specs.Useless.{honestBut}
 
--- a frame to the bench with '@@' allowed or forbidden, its number and what it tells
+-- a frame to a bench of two points with '@@' allowed or forbidden, its number and what it tells
 abbrev pub sends : Bool → String → Call
-sends unchecked f = allowing unchecked (bench blank (text f))
+sends unchecked f = allowing unchecked (bench smallest (text f))
 
 abbrev pub Answer : Bool → String → ℕ → Told → Type 0
 Answer unchecked f number told = (answerOf (sends unchecked f) .number ≡ number) × (answerOf (sends unchecked f) .sum ≡ told)
@@ -40,7 +40,7 @@ abbrev pub refusedEarly : Call → ℕ → Type 0
 refusedEarly c number = (answerOf (allowing false c) .number ≡ number) × (answerOf (allowing false c) .sum ≡ Untested)
 
 abbrev pub axesLess : List ℕ → Call
-axesLess reply = callOf (text "!99208@@\r\n") noAxes (sends true "" .sent .settings) reply blank
+axesLess reply = callOf (text "!99208@@\r\n") noAxes (sends true "" .sent .settings) reply smallest
 
 -- the lot code 0 for column 300, with '@@'
 abbrev pub writing : Bool → Sent
@@ -60,8 +60,8 @@ pub record SumExamples : Type 0 where
   pub after-six : Both "!99208@@\r" 6 Untested × Both "!992082E" 6 Untested × Both "!99200123456789@@\r\n" 6 Untested
   -- nor where 13, 5, 4, 2 and 1 refuse
   pub untested :
-      refusedEarly (record { sent = sendingTo 0x99 3 (text "!99208@@\r\n"); areas = blank }) 13 × refusedEarly (axesLess (replicate 1024 0)) 5
-      × refusedEarly (bench (fresh (holding 500) 20499) (text "!99208@@\r\n")) 4 × refusedEarly (bench (fresh (holding 0) 32768) (text "!99208@@\r\n")) 2
+      refusedEarly (record { sent = sendingTo 0x99 3 (text "!99208@@\r\n"); areas = smallest }) 13 × refusedEarly (axesLess (replicate 1024 0)) 5
+      × refusedEarly (bench (fresh (holding 2) 579) (text "!99208@@\r\n")) 4 × refusedEarly (bench (fresh (holding 0) 580) (text "!99208@@\r\n")) 2
       × refusedEarly (axesLess []) 1
   -- an SC in small letters is true under release 2, and wrong under release 1
   pub small-letters :
@@ -72,7 +72,7 @@ pub record SumExamples : Type 0 where
       × Answer true "!992081@@\r\n" 103 (Said SwitchedOff) × Answer true "!9920D0002580400@@\r\n" 106 (Said SwitchedOff)
       × Answer true "!9924B0002582@@\r\n" 108 (Said SwitchedOff)
   -- a write with '@@' where it is forbidden leaves all as it was; with a true SC it is done: column 300 is '0'
-  pub not-written : answerOf (sends false "!9924E0012C0130@@\r\n") ≡ unanswered (Said SwitchedOff) 12 blank
+  pub not-written : answerOf (sends false "!9924E0012C0130@@\r\n") ≡ unanswered (Said SwitchedOff) 12 smallest
   pub written : getD (answerOf (sends false "!9924E0012C013008\r\n") .areas .columns) 0 0 ≡ 0x30
   -- a history in which the setting changes: a write with '@@', the same where it is forbidden, and a step back, after which nothing stands
   pub history :
