@@ -73,13 +73,13 @@ struct board {
     size_t used;
     size_t reply_length;
     size_t start, length, drop;
-    uint8_t sum;
     uint8_t points[CABINET_POINTS_BYTES(CABINET_MOST_POINTS)];
     uint8_t columns[CABINET_COLUMNS_BYTES];
     uint8_t integers[CABINET_INTEGERS_BYTES];
     uint8_t flags[CABINET_FLAGS_BYTES];
     uint8_t journal[CABINET_MOST_JOURNAL_BYTES];
     uint8_t reply[CABINET_REPLY_BYTES];
+    uint8_t sum; /* behind the areas: these stay aligned */
 };
 
 enum kind { ANSWER, STEP_BACK, RECEIVE };
@@ -112,8 +112,9 @@ static unsigned make_call(const struct calls *calls)
                              CABINET_POINTS_BYTES(trial.held), work.columns, CABINET_COLUMNS_BYTES,
                              work.integers, CABINET_INTEGERS_BYTES, work.flags, CABINET_FLAGS_BYTES,
                              work.journal, trial.journal_length, &work.used, trial.axes,
-                             CABINET_AXES_BYTES, FITTED, STATION, RELEASE, UNCHECKED, FIRST_INTEGER, FIRST_FLAG,
-                             work.reply, CABINET_REPLY_BYTES, &work.reply_length, &work.sum);
+                             CABINET_AXES_BYTES, FITTED, STATION, RELEASE, UNCHECKED,
+                             FIRST_INTEGER, FIRST_FLAG, work.reply, CABINET_REPLY_BYTES,
+                             &work.reply_length, &work.sum);
     if (trial.kind == STEP_BACK)
         return calls->step_back(work.points, CABINET_POINTS_BYTES(trial.held),
                                 work.columns, CABINET_COLUMNS_BYTES,
