@@ -1,7 +1,7 @@
 -- What an accepted frame tells, and that what is asked over areas that no test refuses is heard.
 use Prim.Native.Nat.{ℕ, _+_, _≤_, _<_, _^_}
 use mathlib.Core.Path.{_≡_, refl, sym, ap, ap₂, _∙_, subst}
-use mathlib.Core.Bool.{Bool, true, false, cond}
+use mathlib.Core.Bool.{Bool, true, false, cond, not, _&&_}
 use mathlib.Core.List.{List, _++_}
 use native.Mathlib.Nat.{one-le-pow}
 use native.Mathlib.Omega.{arith}
@@ -11,7 +11,8 @@ use lib.Seq.{length-take-le, take-all, take-take, take-at, drop-at, drop-drop}
 use borrow.Author.Tests.{le-ltb, le-leb, eq-eqb, ne-eqb}
 use Rattle.digits.specs.Digits.{capitals, digitsOf, admitted, numberOf}
 use Rattle.digits.proofs.Inverse.{inverse, all-append}
-use Rattle.frames.specs.Frame.{normal, replyOf, sumSaid, isWrong}
+use Rattle.frames.specs.declared.checks.Sum.{Sum}
+use Rattle.frames.specs.Frame.{normal, replyOf, sumSaid, isOff, isWrong}
 use Rattle.frames.proofs.Bools.{and-false}
 use Rattle.kinds.specs.declared.Held.{Held}
 use Rattle.points.proofs.Parts.{all-take}
@@ -96,7 +97,7 @@ module _ (a : Areas) (h : Sent) (frame : List ℕ) where
   sum-passes : (checked : Bool) → allowed h checked ≡ true → sumSaid (h .settings .release) frame ≡ summedBy checked
       → (forbidden (h .settings) frame ≡ false) × (isWrong (sumSaid (h .settings .release) frame) ≡ false)
   sum-passes true g e = (rw e, ap isWrong e)
-  sum-passes false g e = (rw (e, g), ap isWrong e)
+  sum-passes false g e = (ap (λ (s : Sum). isOff s && not (h .settings .unchecked)) e ∙ ap not g, ap isWrong e)
 
   -- a command of its station passes every test before a reply
   pub heard-there : (checked : Bool) (asks : List ℕ) → Host h → allowed h checked ≡ true → Open a
