@@ -1,5 +1,5 @@
 -- Two calls that are answered alike: the same but for settings that the answer does not ask for, and two frames that the tests find alike.
-use Prim.Native.Nat.{ℕ, _+_, _-_, _≤_}
+use Prim.Native.Nat.{ℕ, _+_, _≤_}
 use mathlib.Core.Path.{_≡_, refl, sym, ap, ap₂, _∙_}
 use mathlib.Core.Bool.{Bool, true, false, cond, not, _&&_, true≢false}
 use mathlib.Core.List.{List}
@@ -184,39 +184,38 @@ done-alike a h f g (Order m start count) w =
       ap (λ (b : List ℕ). cond (writes (m .does)) (written hold (m .tag) start count b a) a) (k .2 (kindOf hold (m .tag) .unit)),
     )
 
--- two frames that say the same text, whatever their stations and SCs are
-pub text-alike : (a : Areas) (h : Sent) (x y x′ y′ : ℕ) (said sc sc′ : List ℕ) → length sc ≡ 2 → length sc′ ≡ 2
-    → forbidden (h .settings) (framed x y said sc) ≡ forbidden (h .settings) (framed x′ y′ said sc′)
-    → isWrong (sumSaid (h .settings .release) (framed x y said sc)) ≡ isWrong (sumSaid (h .settings .release) (framed x′ y′ said sc′))
-    → stationPasses (h .settings .release) (h .settings .station) (framed x y said sc) ≡ stationPasses (h .settings .release) (h .settings .station) (framed x′ y′ said sc′)
-    → Alike a h (framed x y said sc) (framed x′ y′ said sc′)
+-- two frames with the same ID and the same content where they are shaped
+pub fields-alike : (a : Areas) (h : Sent) (f g : List ℕ) → shaped f ≡ shaped g
+    → forbidden (h .settings) f ≡ forbidden (h .settings) g
+    → isWrong (sumSaid (h .settings .release) f) ≡ isWrong (sumSaid (h .settings .release) g)
+    → stationPasses (h .settings .release) (h .settings .station) f ≡ stationPasses (h .settings .release) (h .settings .station) g
+    → (shaped f ≡ true → messageIn f ≡ messageIn g) → (shaped f ≡ true → contentIn f ≡ contentIn g)
+    → Alike a h f g
 unfolding askedOf
-text-alike a h x y x′ y′ said sc sc′ two two′ forbids wrong ours =
+fields-alike a h f g shape forbids wrong ours same-id same-content =
     record {
-      shape = same-shape x y x′ y′ said said sc sc′ two two′ refl refl;
+      shape = shape;
       forbids = forbids;
       wrong = wrong;
       station = ours;
       asks = λ s.
           ap₂ (λ (n : Named) (t : List ℕ). judged (heldIn (lengthsOf a)) (h .settings .fitted) (h .settings .release) n t)
           (message-of (h .settings .release) f (messageIn g) (same-id s) ∙ sym (message-of (h .settings .release) g (messageIn g) refl))
-          (same-body s);
+          (same-content s);
       does = λ s z _.
           done-alike a h f g z
           (λ m start count _.
-          let same = ap (restIn m) (same-body s) in
+          let same = ap (restIn m) (same-content s) in
           (ap numberOf same, λ _. same, λ unit. ap (newBytes (m .does) unit count) same));
     }
-  where
-    f : List ℕ
-    f = framed x y said sc
 
-    g : List ℕ
-    g = framed x′ y′ said sc′
-
-    -- where they are shaped, both have the same ID and the same content
-    same-id : shaped f ≡ true → messageIn f ≡ messageIn g
-    same-id s = let l = long-enough x y said sc two s in is-message x y said sc two l ∙ sym (is-message x′ y′ said sc′ two′ l)
-
-    same-body : shaped f ≡ true → contentIn f ≡ contentIn g
-    same-body s = let l = long-enough x y said sc two s in is-content x y said sc two l ∙ sym (is-content x′ y′ said sc′ two′ l)
+-- two frames that say the same text, whatever their stations and SCs are
+pub text-alike : (a : Areas) (h : Sent) (x y x′ y′ : ℕ) (said sc sc′ : List ℕ) → length sc ≡ 2 → length sc′ ≡ 2
+    → forbidden (h .settings) (framed x y said sc) ≡ forbidden (h .settings) (framed x′ y′ said sc′)
+    → isWrong (sumSaid (h .settings .release) (framed x y said sc)) ≡ isWrong (sumSaid (h .settings .release) (framed x′ y′ said sc′))
+    → stationPasses (h .settings .release) (h .settings .station) (framed x y said sc) ≡ stationPasses (h .settings .release) (h .settings .station) (framed x′ y′ said sc′)
+    → Alike a h (framed x y said sc) (framed x′ y′ said sc′)
+text-alike a h x y x′ y′ said sc sc′ two two′ forbids wrong ours =
+    fields-alike a h (framed x y said sc) (framed x′ y′ said sc′) (same-shape x y x′ y′ said said sc sc′ two two′ refl refl) forbids wrong ours
+    (λ s. let l = long-enough x y said sc two s in is-message x y said sc two l ∙ sym (is-message x′ y′ said sc′ two′ l))
+    (λ s. let l = long-enough x y said sc two s in is-content x y said sc two l ∙ sym (is-content x′ y′ said sc′ two′ l))

@@ -8,6 +8,7 @@ use Rattle.demands.proofs.Survived.{every-digit-survives, heard-again}
 use Rattle.demands.proofs.TestCalls.{test-calls}
 use Rattle.demands.proofs.Releases.{releases, same-answer}
 use Rattle.demands.proofs.SwitchedOff.{switched-off, contract-as-before}
+use Rattle.demands.proofs.OneByte.{one-byte}
 
 pub demands : Demands
 demands =
@@ -34,6 +35,7 @@ demands =
             same-answer = same-answer;
             switched-off = switched-off;
             contract-as-before = contract-as-before;
+            one-byte = one-byte;
           };
       demand3 = every-history;
     }

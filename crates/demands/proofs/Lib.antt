@@ -24,4 +24,6 @@ pub mod Capitals
 pub mod Alike
 pub mod Releases
 pub mod SwitchedOff
+pub mod Changed
+pub mod OneByte
 pub mod Demands

@@ -35,7 +35,7 @@ use Rattle.demands.proofs.Commands.{high, low, summed}
 use Rattle.demands.proofs.Alike.{same-text, same-areas, same-but-sum, text-alike}
 
 -- the number that the sum and the station give
-abbrev lateBy : Sum → Bool → Bool → ℕ
+abbrev pub lateBy : Sum → Bool → Bool → ℕ
 lateBy s unchecked ours = cond (isOff s && not unchecked) 12 (cond (isWrong s) 7 (cond (not ours) 8 0))
 
 is-seven : (s : Sum) (u o : Bool) → lateBy s u o ≡ 7 → s ≡ Wrong
@@ -62,10 +62,10 @@ untested-not {s} e = let z : _≡_ {A = ℕ} 0 1 = ap tag e in omega (arith, z)
     tag (Said s) = 1
 
 -- a call's tests before the sum, with what comes behind them
-abbrev earlyOf : Call → ℕ → ℕ
+abbrev pub earlyOf : Call → ℕ → ℕ
 earlyOf c = earlyNumber (length (c .sent .reply)) (c .sent .frame) (c .sent .axes) (c .sent .settings) (lengthsOf (c .areas)) (c .areas .journal) (c .areas .kept)
 
-early-of : (c : Call) → firstOf (early c) ≡ earlyOf c 0
+pub early-of : (c : Call) → firstOf (early c) ≡ earlyOf c 0
 early-of c = early-rows (length (c .sent .reply)) (c .sent .frame) (c .sent .axes) (c .sent .settings) (lengthsOf (c .areas)) (c .areas .journal) (c .areas .kept)
 
 -- what no test before the sum refuses has the number that the sum and the station give it
@@ -138,7 +138,7 @@ off-as-true a h u said =
     allows f = rw u (and-false (isOff (sumSaid (h .settings .release) f)))
 
 -- the number of what no test before the sum refuses
-late-number : (c : Call) → firstOf (early c) ≡ 0
+pub late-number : (c : Call) → firstOf (early c) ≡ 0
     → silentOf c ≡ lateBy (sumSaid (c .sent .settings .release) (c .sent .frame)) (c .sent .settings .unchecked) (stationPasses (c .sent .settings .release) (c .sent .settings .station) (c .sent .frame))
 late-number c e =
     silent-is c

@@ -6,6 +6,7 @@ use Rattle.demands.specs.Survive.{HeardAgain, EveryDigitSurvives}
 use Rattle.demands.specs.TestCalls.{TestCalls}
 use Rattle.demands.specs.Releases.{Releases, SameAnswer}
 use Rattle.demands.specs.SwitchedOff.{SwitchedOffRule, ContractAsBefore}
+use Rattle.demands.specs.OneByte.{OneByte}
 
 -- "A frame that is refused changes no point, no column and nothing in the journal, and a refusal has one number and one fixed reply, or none."; no
 -- integer and no flag either (02, a)
@@ -33,6 +34,8 @@ pub record Demand2 : Type 0 where
   -- "With the setting on, demand 2 reads as before"; where '@@' is forbidden; and "which it was" (02, f)
   pub switched-off : SwitchedOffRule ours
   pub contract-as-before : ContractAsBefore
+  -- "take a frame with a true SC [..], and change exactly one of its bytes": what the sum catches of it (02, n)
+  pub one-byte : OneByte ours
 
 -- "After any sequence of frames and steps back, points and columns are exactly what the accepted writes not taken back would leave"; "all four kinds"
 -- (02, a)

@@ -7,4 +7,5 @@ pub mod Survive
 pub mod TestCalls
 pub mod Releases
 pub mod SwitchedOff
+pub mod OneByte
 pub mod Demands

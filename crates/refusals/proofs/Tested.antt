@@ -20,9 +20,13 @@ use Rattle.axes.specs.declared.AxisRecord.{AxisRecord}
 use Rattle.axes.specs.Records.{zeroRecord}
 use Rattle.refusals.specs.Refusals.{pointsFit, variablesFit, leastJournal, journalFits, recordsFit}
 
--- a shaped frame has ten bytes at least, and a test call has 20 (02, c)
+-- a shaped frame has '!' first, CR LF last and 10 to 1,023 bytes, and a test call has 20 (02, c)
 pub record Shape (f : List ℕ) : Type 0 where
+  pub header : getD f 0 0 ≡ command
+  pub cr : getD f (length f - 2) 0 ≡ CR
+  pub lf : getD f (length f - 1) 0 ≡ LF
   pub long : 10 ≤ length f
+  pub most : length f ≤ 1023
   pub test-call : testCallFits f ≡ true
 
 pub shape : (f : List ℕ) → shaped f ≡ true → Shape f
@@ -34,8 +38,17 @@ shape f e =
     let d = leb 10 (length f) in
     let g = leb (length f) 1023 in
     let t = testCallFits f in
-    let l = and-right c (d && (g && t)) (and-right b (c && (d && (g && t))) (and-right a (b && (c && (d && (g && t)))) e)) in
-    record { long = leb-true 10 (length f) (and-left d (g && t) l); test-call = and-right g t (and-right d (g && t) l) }
+    let k = and-right a (b && (c && (d && (g && t)))) e in
+    let j = and-right b (c && (d && (g && t))) k in
+    let l = and-right c (d && (g && t)) j in
+    record {
+      header = eqb-true _ _ (and-left a (b && (c && (d && (g && t)))) e);
+      cr = eqb-true _ _ (and-left b (c && (d && (g && t))) k);
+      lf = eqb-true _ _ (and-left c (d && (g && t)) j);
+      long = leb-true 10 (length f) (and-left d (g && t) l);
+      most = leb-true (length f) 1023 (and-left g t (and-right d (g && t) l));
+      test-call = and-right g t (and-right d (g && t) l);
+    }
 
 pub shaped-long : (f : List ℕ) → shaped f ≡ true → 10 ≤ length f
 shaped-long f e = shape f e .long

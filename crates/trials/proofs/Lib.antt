@@ -7,3 +7,4 @@ pub mod SurviveExamples
 pub mod TestCallExamples
 pub mod ReleaseExamples
 pub mod SumExamples
+pub mod OneByteExamples

@@ -6,3 +6,4 @@ pub mod SurviveExamples
 pub mod TestCallExamples
 pub mod ReleaseExamples
 pub mod SumExamples
+pub mod OneByteExamples
