@@ -46,11 +46,11 @@ one-byte-examples =
       test-call = (refl, refl, refl);
       only-size = (refl, refl);
       of-content = (refl, refl, refl);
-      code = (refl, refl);
-      two-changed = (refl, refl);
-      two-exchanged = (refl, refl);
+      code = (refl, refl, refl);
+      two-changed = (refl, refl, refl);
+      two-exchanged = (refl, refl, refl);
       off-changed = refl;
-      off-code = ((refl, refl), (refl, refl));
+      off-code = ((refl, refl, refl), (refl, refl, refl));
     }
 
 -- the number of an answer, and what it leaves in column 303

@@ -10,7 +10,8 @@ use lib.Dec.{eqb}
 use lib.ListN.{length, take, drop, getD, set}
 use Rattle.digits.specs.Digits.{capitals, numberOf}
 use Rattle.digits.specs.Text.{text}
-use Rattle.frames.specs.declared.checks.Sum.the-variants.{Wrong}
+use Rattle.frames.specs.declared.checks.Sum.{Sum}
+use Rattle.frames.specs.declared.checks.Sum.the-variants.{True, SwitchedOff, Wrong}
 use Rattle.frames.specs.Frame.{beforeSC, scIn, scOf, lowByte, sumTrue, closed}
 use Rattle.calls.specs.declared.Told.the-variants.{Said}
 use Rattle.calls.specs.Calls.{Call}
@@ -41,9 +42,10 @@ changedFrom (suc left) place f =
 abbrev pub eachChanged : String → List ℕ
 eachChanged f = changedFrom (length (text f)) 0 (text f)
 
--- a frame is accepted, and columns 300 to 303 then hold this lot code
-abbrev pub Stores : String → String → Type 0
-Stores f code = (numbered 1 f ≡ 0) × (take 4 (answerOf (sent 1 f) .areas .columns) ≡ text code)
+-- a frame is accepted, this is told of its sum, and columns 300 to 303 then hold this lot code
+abbrev pub Stores : String → Sum → String → Type 0
+Stores f sum code =
+    (numbered 1 f ≡ 0) × (answerOf (sent 1 f) .sum ≡ Said sum) × (take 4 (answerOf (sent 1 f) .areas .columns) ≡ text code)
 
 pub record OneByteExamples : Type 0 where
   -- the premises: calls that pass; at any place of a frame, any other byte; an SC letter at either place, from capital to small and back
@@ -62,13 +64,13 @@ pub record OneByteExamples : Type 0 where
   pub only-size : (numbered 2 "!992082d\r\n" ≡ 0) × (numbered 1 "!992082d\r\n" ≡ 7)
   pub of-content : (numbered 2 "!992120F9E\r\n" ≡ 0) × (numbered 2 "!992120f9E\r\n" ≡ 7) × (numbered 1 "!992120f9E\r\n" ≡ 7)
   -- not caught: the lot code 0047 with two bytes changed so that the sum stays is 0056; with two bytes exchanged it is 0074
-  pub code : Stores "!9924E0012C04303034373F\r\n" "0047"
-  pub two-changed : Stores "!9924E0012C04303035363F\r\n" "0056"
-  pub two-exchanged : Stores "!9924E0012C04303037343F\r\n" "0074"
+  pub code : Stores "!9924E0012C04303034373F\r\n" True "0047"
+  pub two-changed : Stores "!9924E0012C04303035363F\r\n" True "0056"
+  pub two-exchanged : Stores "!9924E0012C04303037343F\r\n" True "0074"
   -- nor, with '@@', any byte but the SC's own: '!', CR and LF are 6, the station is 8, the ID an unknown message (101) or another (103), and a digit is
   -- stored
   pub off-changed : eachChanged "!99208@@\r\n" ≡ 6 ∷ 8 ∷ 8 ∷ 101 ∷ 101 ∷ 103 ∷ 7 ∷ 7 ∷ 6 ∷ 6 ∷ []
-  pub off-code : Stores "!9924E0012C0430303437@@\r\n" "0047" × Stores "!9924E0012C0430303438@@\r\n" "0048"
+  pub off-code : Stores "!9924E0012C0430303437@@\r\n" SwitchedOff "0047" × Stores "!9924E0012C0430303438@@\r\n" SwitchedOff "0048"
 
 -- a board that takes an SC for true also where this says so
 abbrev pub trusting : (List ℕ → Bool) → Conduct
