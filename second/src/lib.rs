@@ -1,6 +1,6 @@
 //! The independent second program: the board of document 01 as a plain model on byte vectors.
 //!
-//! Written from document 01 (`01-scope.md`), requests a, c, f and l of document 02
+//! Written from document 01 (`01-scope.md`), requests a, c, f, l and n of document 02
 //! (`02-change-requests.md`) and document 000 (IAI's X-SEL Format B specification) alone, to judge the
 //! product. The public calls are `frames::find`, `link::answer` and `link::step_back`; they take areas
 //! of any length and never panic.

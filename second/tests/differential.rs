@@ -7,6 +7,7 @@ use second::frames::closed;
 use second::journal::least_length;
 use second::{Board, Outcome};
 
+mod lets_through;
 mod wrong_letters;
 mod wrong_sums;
 
@@ -371,6 +372,13 @@ fn boards_with_wrong_letters_are_caught() {
 #[test]
 fn boards_with_wrong_sums_are_caught() {
     for wrong in wrong_sums::ALL {
+        is_caught(&wrong, &format!("{wrong:?}"));
+    }
+}
+
+#[test]
+fn boards_that_let_one_changed_byte_through_are_caught() {
+    for wrong in lets_through::ALL {
         is_caught(&wrong, &format!("{wrong:?}"));
     }
 }

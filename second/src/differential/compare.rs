@@ -60,6 +60,9 @@ fn handed(call: &Call) -> &[u8] {
     }
 }
 
+/// What answers a call: `second`, or another to try a run with.
+pub type Model<'a> = &'a dyn Fn(&Call, &mut Lent) -> Answer;
+
 /// The same call on the second program.
 pub fn second(call: &Call, lent: &mut Lent) -> Answer {
     let Lent { board, axes, settings, reply } = lent;

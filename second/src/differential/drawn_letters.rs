@@ -40,6 +40,12 @@ pub fn sum_of_capitals(dice: &mut Dice, frame: &mut [u8]) {
     }
 }
 
+/// Makes letters of the SC small, under whatever stands before it.
+pub fn small_sc(dice: &mut Dice, frame: &mut [u8]) {
+    let place = sc(frame);
+    small_in(dice, &mut frame[place]);
+}
+
 /// In one of station, ID and content, or in each of them by itself.
 fn small_before_sc(dice: &mut Dice, frame: &mut [u8]) {
     let places = before_sc(frame);

@@ -3,6 +3,7 @@
 use super::calls::Finding;
 use super::compare::{Answer, Call, Lent};
 use super::letter_places::{of_letters, LETTER_PLACES};
+use super::one_byte_places;
 use super::sum_places::{self, of_sum};
 use crate::areas::{Area, Board, Kinds, Run, Settings, FLAGS, INTEGER, INTEGERS, SLOT};
 use crate::digits;
@@ -12,10 +13,11 @@ use crate::link::Outcome;
 
 /// All places a run must come by, besides numbers and messages.
 pub fn all() -> impl Iterator<Item = &'static str> {
-    PLACES.into_iter().chain(LETTER_PLACES).chain(sum_places::all())
+    let of_calls = PLACES.into_iter().chain(LETTER_PLACES).chain(sum_places::all());
+    of_calls.chain(one_byte_places::all())
 }
 
-/// All but those of small letters and of what the sum test says.
+/// All but those of small letters, of what the sum test says and of one changed byte.
 const PLACES: [&str; 60] = [
     "true SC accepted",
     "'@@' accepted",

@@ -1,7 +1,7 @@
 //! What is compared with the second program: calls in this process, or a player in its own.
 
 use super::calls::{Areas, Calls};
-use super::compare::{second, Answer, Call, Lent};
+use super::compare::{Answer, Call, Lent, Model};
 use super::left::Left;
 
 /// A call as the second program made it.
@@ -27,6 +27,9 @@ pub enum Difference {
     Left(usize, Box<Left>),
     /// Nothing came back from the call of this number, and why.
     Nothing(usize, String),
+    /// The second program's own answer to the call of this number breaks the rule of one changed byte
+    /// (document 02, n), and how.
+    Rule(usize, String),
     /// All calls left what they must, but the player's end was not good.
     End(String),
 }
@@ -58,7 +61,8 @@ impl Product for Here<'_> {
     }
 }
 
-fn make_on(calls: &dyn Calls, call: &Call, lent: &mut Lent) -> Answer {
+/// The call on these calls; `lent` is then what it left.
+pub fn make_on(calls: &dyn Calls, call: &Call, lent: &mut Lent) -> Answer {
     let Lent { board, axes, settings, reply } = lent;
     let mut areas = Areas {
         points: &mut board.points,
@@ -80,7 +84,13 @@ fn make_on(calls: &dyn Calls, call: &Call, lent: &mut Lent) -> Answer {
 }
 
 /// The call as the second program makes it; `lent` is then what it left.
-pub fn made<'a>(number: usize, call: &'a Call, before: &'a Lent, lent: &'a mut Lent) -> Made<'a> {
-    let answer = second(call, lent);
+pub fn made<'a>(
+    model: Model,
+    number: usize,
+    call: &'a Call,
+    before: &'a Lent,
+    lent: &'a mut Lent,
+) -> Made<'a> {
+    let answer = model(call, lent);
     Made { number, call, before, after: lent, answer }
 }

@@ -1,9 +1,10 @@
 //! A run: board after board, call after call, until the planned number is made.
 
-use super::compare::{dump, parts, Call, Lent};
+use super::compare::{dump, parts, second, Call, Lent, Model};
 use super::dice::Dice;
+use super::one_byte;
 use super::product::{made, Difference, Made, Product};
-use super::{drawn_boards, drawn_frames, drawn_line, spoil, Tally};
+use super::{drawn_boards, drawn_frames, drawn_line, drawn_one_byte, spoil, Tally};
 
 /// Steps back in one go, at most.
 const MOST_STEPS: usize = 60;
@@ -18,17 +19,24 @@ pub struct Plan {
 
 /// Makes the calls of a plan; Err is the first difference, with all that was handed over.
 pub fn run(product: &mut dyn Product, plan: &Plan) -> Result<Tally, String> {
-    let (tally, difference) = calls(product, plan);
-    match difference.or_else(|| product.end().err()) {
+    run_with(&second, product, plan)
+}
+
+/// The same with another model in the second program's place, to try the run itself.
+pub fn run_with(model: Model, product: &mut dyn Product, plan: &Plan) -> Result<Tally, String> {
+    let (tally, difference) = calls(model, product, plan);
+    // A broken rule is found on this side alone, so the player's end is asked for in any case.
+    let end = product.end().err();
+    match difference.or(end) {
         None => Ok(tally),
-        Some(difference) => Err(explained(difference, plan.seed)),
+        Some(difference) => Err(explained(model, difference, plan.seed)),
     }
 }
 
 /// Makes the calls of a plan, until a difference is found.
-fn calls(product: &mut dyn Product, plan: &Plan) -> (Tally, Option<Difference>) {
+fn calls(model: Model, product: &mut dyn Product, plan: &Plan) -> (Tally, Option<Difference>) {
     let dice = Dice::new(plan.seed);
-    let mut run = Run { product, plan: *plan, dice, tally: Tally::default(), made: 0 };
+    let mut run = Run { model, product, plan: *plan, dice, tally: Tally::default(), made: 0 };
     while run.made < plan.calls {
         let mut lent = drawn_boards::lent(&mut run.dice);
         let until = run.made + drawn_boards::calls(&mut run.dice, &lent);
@@ -42,14 +50,15 @@ fn calls(product: &mut dyn Product, plan: &Plan) -> (Tally, Option<Difference>) 
 }
 
 /// A difference as text; its call is drawn again.
-fn explained(difference: Difference, seed: u64) -> String {
-    let number = match &difference {
-        Difference::Left(number, _) | Difference::Nothing(number, _) => *number,
+fn explained(model: Model, difference: Difference, seed: u64) -> String {
+    let (what, number) = match &difference {
+        Difference::Left(number, _) | Difference::Nothing(number, _) => ("difference", *number),
+        Difference::Rule(number, _) => ("rule of one changed byte broken", *number),
         Difference::End(why) => return format!("difference at the end: {why}"),
     };
     let mut again = Again { difference, text: String::new() };
-    calls(&mut again, &Plan { seed, calls: number, show: 0 });
-    format!("difference at call {number} of seed {seed}\n{}", again.text)
+    calls(model, &mut again, &Plan { seed, calls: number, show: 0 });
+    format!("{what} at call {number} of seed {seed}\n{}", again.text)
 }
 
 /// Makes no call, and explains the difference where it comes by.
@@ -67,6 +76,7 @@ impl Product for Again {
             Difference::Nothing(number, why) if *number == made.number => {
                 format!("nothing came back ({why}), from this call or a later one of its batch")
             }
+            Difference::Rule(number, how) if *number == made.number => how.clone(),
             _ => return Ok(()),
         };
         self.text = format!("{what}\n{}", dump(made.call, made.before));
@@ -79,6 +89,7 @@ impl Product for Again {
 }
 
 struct Run<'a> {
+    model: Model<'a>,
     product: &'a mut dyn Product,
     plan: Plan,
     dice: Dice,
@@ -89,7 +100,7 @@ struct Run<'a> {
 impl Run<'_> {
     /// One call, or several steps back; what is accepted stays for the next.
     fn next(&mut self, lent: &mut Lent) -> Result<(), Difference> {
-        match self.dice.roll(100) {
+        match self.dice.roll(106) {
             0..=45 => {
                 let frame = drawn_frames::good(&mut self.dice, lent);
                 self.make(Call::Answer { frame }, lent)
@@ -112,6 +123,7 @@ impl Run<'_> {
                 self.make(Call::Receive { received }, lent)
             }
             83..=95 => self.spoiled(lent),
+            96..=101 => self.one_byte(lent),
             _ => {
                 spoil::change(&mut self.dice, lent);
                 let frame = drawn_frames::good(&mut self.dice, lent);
@@ -145,15 +157,42 @@ impl Run<'_> {
         self.make(call, &mut copy)
     }
 
+    /// A frame with a true SC of which one byte is changed, now and then on a spoiled copy.
+    fn one_byte(&mut self, lent: &mut Lent) -> Result<(), Difference> {
+        let [unchanged, frame] = drawn_one_byte::one_byte(&mut self.dice, lent);
+        let call = Call::Answer { frame };
+        if self.dice.one_in(12) {
+            let mut copy = lent.clone();
+            spoil::spoil(&mut self.dice, &mut copy);
+            return self.make_from(Some(&unchanged), call, &mut copy);
+        }
+        self.make_from(Some(&unchanged), call, lent)
+    }
+
     fn make(&mut self, call: Call, lent: &mut Lent) -> Result<(), Difference> {
+        self.make_from(None, call, lent)
+    }
+
+    /// One call; where its frame was made from a frame with a true SC, the rule of that is judged too.
+    fn make_from(
+        &mut self,
+        unchanged: Option<&[u8]>,
+        call: Call,
+        lent: &mut Lent,
+    ) -> Result<(), Difference> {
         let before = lent.clone();
         self.made += 1;
         if self.made == self.plan.show {
             eprintln!("call {}\n{}", self.made, dump(&call, &before));
         }
-        let made = made(self.made, &call, &before, lent);
+        let made = made(self.model, self.made, &call, &before, lent);
         self.product.make(&made)?;
         self.tally.count(&call, &before, made.after, made.answer);
+        if let Some(unchanged) = unchanged {
+            let judged = one_byte::judged(self.model, unchanged, &made);
+            let judged = judged.map_err(|how| Difference::Rule(self.made, how))?;
+            judged.iter().for_each(|judged| self.tally.count_one_byte(judged));
+        }
         Ok(())
     }
 }

@@ -3,6 +3,8 @@
 use super::calls::Finding;
 use super::compare::{Answer, Call, Lent};
 use super::letter_places::has_small_digit;
+use super::one_byte::Judged;
+use super::one_byte_places::of_one_byte;
 use super::places::{self, as_read, reached};
 use std::collections::BTreeMap;
 use std::fmt;
@@ -46,6 +48,13 @@ impl Tally {
             (_, Answer::SteppedBack(number)) => *self.steps_back.entry(number).or_default() += 1,
             (_, Answer::Received(Finding { code, .. })) => self.findings[usize::from(code)] += 1,
             _ => {}
+        }
+    }
+
+    /// Counts one changed byte, besides its call.
+    pub fn count_one_byte(&mut self, judged: &Judged) {
+        for (place, reached) in of_one_byte(judged) {
+            *self.places.entry(place).or_default() += usize::from(reached);
         }
     }
 

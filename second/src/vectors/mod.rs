@@ -3,6 +3,7 @@
 mod drawn_cases;
 mod fixed_cases;
 mod journal_cases;
+mod one_byte_cases;
 mod play;
 mod refusal_cases;
 mod release_cases;
@@ -27,6 +28,7 @@ pub fn stdin() -> Vec<u8> {
     test_call_cases::add(&mut script);
     release_cases::add(&mut script);
     sum_cases::add(&mut script);
+    one_byte_cases::add(&mut script);
     drawn_cases::add(&mut script);
     script.end()
 }
@@ -54,7 +56,7 @@ mod tests {
         // The product's program reads at most 131,072 bytes.
         assert!(stdin.len() < 131_072, "{} bytes", stdin.len());
         let lines = stdout.lines().count();
-        assert!((300..=1_900).contains(&lines), "{lines} lines");
+        assert!((300..=2_000).contains(&lines), "{lines} lines");
         let numbers = |letter: &str| -> BTreeSet<u16> {
             let lines = stdout.lines().filter_map(|line| line.strip_prefix(letter));
             lines.filter_map(|line| line.split(' ').next()?.parse().ok()).collect()
