@@ -2,22 +2,21 @@
 use Prim.Native.Nat.{ℕ, zero, suc, _+_, _-_, _≤_, _<_}
 use mathlib.Core.Path.{_≡_, refl, sym, ap, ap₂, _∙_}
 use mathlib.Core.Logic.{_⊎_, inl, inr}
-use mathlib.Core.Bool.{Bool, true, false, not, _&&_, _||_, true≢false, false≢true}
+use mathlib.Core.Bool.{Bool, true, false, not, _&&_, _||_, true≢false}
 use mathlib.Core.List.{List, [], _∷_}
 use native.Mathlib.Omega.{arith}
 use lib.Dec.{eqb, ltb}
 use lib.ListN.{length, take, drop, getD, set, length-set, length-take, length-drop, List·getD-eq-default, List·getD-map}
 use lib.Seq.{length-take-le, getD-set-same, getD-set-other, map-set-same, take-set-le, take-set-lt, drop-set-lt, drop-set-add, getD-take, getD-drop, ext-getD}
 use borrow.Author.Tests.{eqb-true, eqb-false, eq-eqb, ne-eqb, ltb-true, ltb-false, le-leb}
-use Rattle.digits.specs.Digits.{capital, capitals, admits, admitted, numberOf}
+use Rattle.digits.specs.Digits.{capital, capitals, admitted, numberOf}
 use Rattle.digits.proofs.Inverse.{and-right, rules}
-use Rattle.digits.proofs.Reading.{digit-at}
 use Rattle.frames.specs.declared.checks.Sum.the-variants.{Wrong}
 use Rattle.frames.specs.Frame.{command, CR, LF, stationIn, messageIn, contentIn, beforeSC, scIn, sumOf, lowByte, scOf, testCallFits, shaped, sumTrue, sumOff, sumSaid}
 use Rattle.frames.proofs.Bools.{and-false}
 use Rattle.frames.proofs.Promised.{true-sc}
 use Rattle.frames.proofs.TestID.{by-message}
-use Rattle.frames.proofs.Three.{said-wrong}
+use Rattle.frames.proofs.Three.{at-sign, said-wrong}
 use Rattle.refusals.proofs.Tested.{shape}
 use Rattle.demands.specs.OneByte.{Changed, misshapen, OnlySize}
 
@@ -27,10 +26,15 @@ sum-set [] i b h = absurd (omega arith)
 sum-set (x ∷ s) zero b h = omega arith
 sum-set (x ∷ s) (suc i) b h = let e = sum-set s i b (omega arith) in omega (arith, e)
 
--- '@' is no digit, wherever it stands
-no-sign : (r : ℕ) (s : List ℕ) (i : ℕ) → admitted r s ≡ true → i < length s → getD s i 0 ≡ 0x40 → ⊥
-unfolding admits
-no-sign r s i a h e = false≢true (sym (ap (admits 2) e) ∙ digit-at s i (rules s .digits r a) h)
+-- one of the SC's two places, counted from its first
+record InSC (place n : ℕ) : Type 0 where
+  at : ℕ
+  two : at < 2
+  is : place ≡ n - 4 + at
+
+in-two : {place n : ℕ} → 4 ≤ n → (place + 4 ≡ n) ⊎ (place + 3 ≡ n) → InSC place n
+in-two l (inl e) = record { at = 0; two = omega arith; is = omega (arith, e) }
+in-two l (inr e) = record { at = 1; two = omega arith; is = omega (arith, e, l) }
 
 module _ {place : ℕ} {f f′ : List ℕ} (ch : Changed place f f′) where
   -- the other byte
@@ -46,7 +50,7 @@ module _ {place : ℕ} {f f′ : List ℕ} (ch : Changed place f f′) where
           let l = ltb-false _ _ e in
           absurd (ch .differs (List·getD-eq-default f′ 0 (omega (arith, l, ch .same-length)) ∙ sym (List·getD-eq-default f 0 l)))
 
-  -- it is put where the frame had its own
+  -- the changed frame is the frame with that byte put in
   is-set : f′ ≡ set f place new
   is-set = ext-getD 0 f′ (set f place new) (ch .same-length ∙ sym (length-set f place new)) (λ i _. go i (eqb i place) refl)
     where
@@ -115,8 +119,10 @@ module _ {place : ℕ} {f f′ : List ℕ} (ch : Changed place f f′) where
           -- the one that is as it was
           kept : (i : ℕ) → i < 2 → (length f - 4 + i ≡ place → ⊥) → getD (scIn f′) i 0 ≡ 0x40 → ⊥
           kept i l n e =
-              no-sign r (scIn f) i (was-true .0) (omega (arith, sc-long, l))
-              (sym (here f) ∙ sym (ch .elsewhere (length f - 4 + i) n) ∙ ap (λ (k : ℕ). getD f′ (k - 4 + i) 0) (sym (ch .same-length)) ∙ here f′ ∙ e)
+              true≢false
+              (sym (was-true .0)
+              ∙ at-sign r (scIn f) i
+              (sym (here f) ∙ sym (ch .elsewhere (length f - 4 + i) n) ∙ ap (λ (k : ℕ). getD f′ (k - 4 + i) 0) (sym (ch .same-length)) ∙ here f′ ∙ e))
             where
               here : (g : List ℕ) → getD g (length g - 4 + i) 0 ≡ getD (scIn g) i 0
               here g = sym (getD-take 2 (drop (length g - 4) g) i 0 l ∙ getD-drop (length g - 4) g i 0)
@@ -142,10 +148,12 @@ module _ {place : ℕ} {f f′ : List ℕ} (ch : Changed place f f′) where
           let o : getD (take m f) place 0 ≡ getD f place 0 = getD-take m f place 0 l in
           let v : numberOf (scIn f) ≡ lowByte (beforeSC f) =
           eqb-true _ _ (and-right (admitted r (scIn f)) (eqb (numberOf (scIn f)) (lowByte (beforeSC f))) was) in
-          rw (sc, b, ne-eqb (numberOf (scIn f)) (lowByte (set (take m f) place new)) (λ z. differs (omega (arith, t, o, v, z, ch .bytes .0, ch .bytes .1))), and-false (admitted r (scIn f)))
-        where
-          differs : new ≡ getD f place 0 → ⊥
-          differs = ch .differs
+          rw (
+            sc,
+            b,
+            ne-eqb (numberOf (scIn f)) (lowByte (set (take m f) place new)) (λ z. ch .differs (omega (arith, t, o, v, z, ch .bytes .0, ch .bytes .1))),
+            and-false (admitted r (scIn f)),
+          )
 
       -- a byte of the SC
       module _ (at : ℕ) (l : at < 2) (e : place ≡ length f - 4 + at) where
@@ -236,66 +244,47 @@ module _ {place : ℕ} {f f′ : List ℕ} (ch : Changed place f f′) where
           not-true false e n = e
 
           of-sc : (place + 4 ≡ length f) ⊎ (place + 3 ≡ length f) → sumTrue r f′ ≡ true → ⊥
-          of-sc (inl e) t = again (record { of-sc = inl e; same-letter = same-letter 0 (omega arith) (omega (arith, e)) t }) t
-          of-sc (inr e) t = again (record { of-sc = inr e; same-letter = same-letter 1 (omega arith) (omega (arith, e, long)) t }) t
+          of-sc w t =
+              let i = in-two (omega (arith, long)) w in
+              again (record { of-sc = w; same-letter = same-letter (i .at) (i .two) (i .is) t }) t
 
           go : (b : Bool) → ltb place (length f - 4) ≡ b → sumTrue r f′ ≡ false
           go true e = wrong-sum (ltb-true _ _ e)
           go false e = not-true (sumTrue r f′) refl (of-sc (in-sc (ltb-false _ _ e) m))
 
-      -- no such SC is true under release 1
+      -- no such SC is true under release 1, and under release 2 each is
       pub none-under-one : r ≡ 1 → OnlySize place f f′ → sumTrue r f′ ≡ true → ⊥
-      none-under-one one o = go (o .of-sc)
-        where
-          go : (place + 4 ≡ length f) ⊎ (place + 3 ≡ length f) → sumTrue r f′ ≡ true → ⊥
-          go (inl e) = not-under-one 0 (omega arith) (omega (arith, e)) one
-          go (inr e) = not-under-one 1 (omega arith) (omega (arith, e, long)) one
+      none-under-one one o = let i = in-two (omega (arith, long)) (o .of-sc) in not-under-one (i .at) (i .two) (i .is) one
 
-      -- and under release 2 each is
       pub each-under-two : r ≡ 2 → OnlySize place f f′ → sumTrue r f′ ≡ true
-      each-under-two two o = go (o .of-sc)
-        where
-          go : (place + 4 ≡ length f) ⊎ (place + 3 ≡ length f) → sumTrue r f′ ≡ true
-          go (inl e) = true-again 0 (omega arith) (omega (arith, e)) two (o .same-letter)
-          go (inr e) = true-again 1 (omega arith) (omega (arith, e, long)) two (o .same-letter)
+      each-under-two two o = let i = in-two (omega (arith, long)) (o .of-sc) in true-again (i .at) (i .two) (i .is) two (o .same-letter)
 
     -- the fields before the SC, where it is the SC that has changed
     module _ (o : OnlySize place f f′) where
-      behind : length f - 4 ≤ place
-      behind = go (o .of-sc)
-        where
-          go : (place + 4 ≡ length f) ⊎ (place + 3 ≡ length f) → length f - 4 ≤ place
-          go (inl e) = omega (arith, e)
-          go (inr e) = omega (arith, e)
+      behind : (length f - 4 ≤ place) × (place < length f - 2)
+      behind = let i = in-two (omega (arith, long)) (o .of-sc) in let e = i .is in (omega (arith, e), omega (arith, e, i .two, long))
 
       pub same-station : stationIn f′ ≡ stationIn f
-      same-station = part-same 2 1 (omega (arith, behind, long))
+      same-station = part-same 2 1 (omega (arith, behind .0, long))
 
       pub same-message : messageIn f′ ≡ messageIn f
-      same-message = part-same 3 3 (omega (arith, behind, long))
+      same-message = part-same 3 3 (omega (arith, behind .0, long))
 
       pub same-content : contentIn f′ ≡ contentIn f
       same-content =
-          ap (λ (k : ℕ). take (k - 10) (drop 6 f′)) (ch .same-length) ∙ part-same (length f - 10) 6 (omega (arith, behind, long))
+          ap (λ (k : ℕ). take (k - 10) (drop 6 f′)) (ch .same-length) ∙ part-same (length f - 10) 6 (omega (arith, behind .0, long))
 
       pub still-shaped : shaped f′ ≡ true
       still-shaped =
           let n = ch .same-length in
           shape-is
           ∙ rw (
-            ne-eqb place 0 (λ z. omega (arith, z, behind, long)),
-            ne-eqb place (length f′ - 2) (λ z. ends (omega (arith, z, n))),
-            ne-eqb place (length f′ - 1) (λ z. ends (omega (arith, z, n))),
+            ne-eqb place 0 (λ z. omega (arith, z, behind .0, long)),
+            ne-eqb place (length f′ - 2) (λ z. omega (arith, z, n, behind .1)),
+            ne-eqb place (length f′ - 1) (λ z. omega (arith, z, n, behind .1)),
             test-call,
           )
         where
-          ends : length f - 2 ≤ place → ⊥
-          ends l = go (o .of-sc)
-            where
-              go : (place + 4 ≡ length f) ⊎ (place + 3 ≡ length f) → ⊥
-              go (inl e) = omega (arith, e, l)
-              go (inr e) = omega (arith, e, l)
-
           test-call : testCallFits f′ ≡ true
           test-call =
               ap₂ (λ (t : Bool) (k : ℕ). not t || eqb k 20) (by-message f′ (messageIn f) same-message ∙ sym (by-message f (messageIn f) refl)) (ch .same-length)

@@ -13,7 +13,7 @@ use Rattle.calls.specs.declared.Told.{Told}
 use Rattle.calls.specs.declared.Told.the-variants.{Untested, Said}
 use Rattle.calls.specs.Calls.{Call, Outcome, lengthsOf, sumCode}
 use Rattle.refusals.specs.Refusals.{early}
-use Rattle.refusals.proofs.Rows.{EarlyPassed, early-passed, past-areas, ownNumber, silent-is, told-untested, told-said}
+use Rattle.refusals.proofs.Rows.{EarlyPassed, past-early, told-said}
 use Rattle.link.specs.Answer.{unanswered, answerOf}
 use Rattle.link.proofs.Answering.{silent-answer}
 use Rattle.demands.specs.Refused.{among}
@@ -21,50 +21,34 @@ use Rattle.demands.specs.History.{ours}
 use Rattle.demands.specs.TestCalls.{handed}
 use Rattle.demands.specs.SwitchedOff.{earlyNumbers}
 use Rattle.demands.specs.OneByte.{Changed, Passes, misshapen, Caught, OnlySize, Unnoticed, OneByte}
-use Rattle.demands.proofs.Refused.{told-is}
+use Rattle.demands.proofs.Refused.{told-is, by-six}
 use Rattle.demands.proofs.Alike.{by-sum, fields-alike, same-answers}
-use Rattle.demands.proofs.SwitchedOff.{earlyOf, early-of, late-number, switched-off}
+use Rattle.demands.proofs.SwitchedOff.{early-of, early-passes, late-number, switched-off}
 use Rattle.demands.proofs.Changed.{shape-is, wrong, none-under-one, each-under-two, same-station, same-message, same-content, still-shaped}
 
--- a call that passes
+-- a call that passes, and the same with another frame
 module _ {r : ℕ} {c : Call} (p : Passes r c) where
-  passed : EarlyPassed (length (c .sent .reply)) (c .sent .frame) (c .sent .axes) (c .sent .settings) (lengthsOf (c .areas)) (c .areas .journal) (c .areas .kept)
-  passed =
-      early-passed (length (c .sent .reply)) (c .sent .frame) (c .sent .axes) (c .sent .settings) (lengthsOf (c .areas)) (c .areas .journal) (c .areas .kept)
-      (sym (early-of c) ∙ p .to-six)
-      .0
+  abbrev passed : EarlyPassed (length (c .sent .reply)) (c .sent .frame) (c .sent .axes) (c .sent .settings) (lengthsOf (c .areas)) (c .areas .journal) (c .areas .kept)
+  passed = early-passes c (p .to-six)
 
   module _ (f′ : List ℕ) where
     abbrev d : Call
     d = handed (c .areas) (c .sent) f′
 
-    -- with another frame, test 6 alone may refuse it before the sum
-    early-is : (k : ℕ) → earlyOf d k ≡ cond (not (shaped f′)) 6 k
-    early-is k =
-        rw (
-          passed .reply-long,
-          past-areas (lengthsOf (c .areas)) (c .areas .journal) (c .areas .kept) (passed .areas) (ownNumber (c .sent .axes) (c .sent .settings) f′ k),
-          passed .axes-fit,
-          passed .release-fits,
-        )
-
-    early-none : shaped f′ ≡ true → firstOf (early d) ≡ 0
-    early-none s = early-of d ∙ early-is 0 ∙ rw s
-
-    early-six : shaped f′ ≡ false → firstOf (early d) ≡ 6
-    early-six s = early-of d ∙ early-is 0 ∙ rw s
-
-    by-six : shaped f′ ≡ false → answerOf d ≡ unanswered Untested 6 (c .areas)
-    by-six s =
-        let e = early-six s in
-        silent-answer d 6 (sym (silent-is d ∙ early-is _ ∙ rw s)) (λ z. omega (arith, z))
-        ∙ ap (λ (t : Told). unanswered t 6 (c .areas)) (told-untested (c .sent .settings .release) f′ (λ z. omega (arith, e, z)))
+    unshaped : shaped f′ ≡ false → answerOf d ≡ unanswered Untested 6 (c .areas)
+    unshaped s = by-six d (passed .reply-long) (passed .areas) (passed .axes-fit) (passed .release-fits) s
 
     by-seven : shaped f′ ≡ true → sumSaid (c .sent .settings .release) f′ ≡ Wrong → answerOf d ≡ unanswered (Said Wrong) 7 (c .areas)
     by-seven s w =
-        let e = early-none s in
-        silent-answer d 7 (sym (late-number d e ∙ rw w)) (λ z. omega (arith, z))
-        ∙ ap (λ (t : Told). unanswered t 7 (c .areas)) (told-said (c .sent .settings .release) f′ e ∙ ap Said w)
+        silent-answer d 7 (sym (late-number d none ∙ rw w)) (λ z. omega (arith, z))
+        ∙ ap (λ (t : Told). unanswered t 7 (c .areas)) (told-said (c .sent .settings .release) f′ none ∙ ap Said w)
+      where
+        none : firstOf (early d) ≡ 0
+        none =
+            early-of d
+            ∙ past-early (length (c .sent .reply)) f′ (c .sent .axes) (c .sent .settings) (lengthsOf (c .areas)) (c .areas .journal) (c .areas .kept)
+            (record { reply-long = passed .reply-long; areas = passed .areas; axes-fit = passed .axes-fit; release-fits = passed .release-fits; shape = s })
+            0
 
     -- one changed byte, but for an SC that is true again
     module _ {place : ℕ} (ch : Changed place (c .sent .frame) f′) where
@@ -72,7 +56,7 @@ module _ {r : ℕ} {c : Call} (p : Passes r c) where
       caught again = go (misshapen place f′) refl
         where
           go : (b : Bool) → misshapen place f′ ≡ b → answerOf d ≡ cond b (unanswered Untested 6 (c .areas)) (unanswered (Said Wrong) 7 (c .areas))
-          go true m = by-six (shape-is ch (passed .shape) ∙ ap not m)
+          go true m = unshaped (shape-is ch (passed .shape) ∙ ap not m)
           go false m =
               by-seven (shape-is ch (passed .shape) ∙ ap not m)
               (ap (λ (k : ℕ). sumSaid k f′) (p .release-is) ∙ wrong ch (passed .shape) r (p .true-sc) m again)

@@ -4,14 +4,14 @@ use mathlib.Core.Path.{_≡_, refl, sym, ap, _∙_, subst}
 use mathlib.Core.Bool.{true, false}
 use mathlib.Core.List.{List, [], _∷_}
 use native.Mathlib.Omega.{arith}
-use lib.Dec.{eqb}
+use lib.Dec.{eqb, ltb}
 use lib.ListN.{length, drop}
 use lib.Seq.{drop-at}
 use borrow.Author.Tests.{eqb-true, eqb-false}
 use Rattle.digits.specs.Laid.{laid}
 use Rattle.digits.proofs.Bools.{either}
 use Rattle.digits.proofs.Laid.{laid-nothing, laid-front}
-use Rattle.frames.specs.Frame.{contentIn, errorOf}
+use Rattle.frames.specs.Frame.{contentIn, shaped, errorOf}
 use Rattle.frames.proofs.Closing.{length-reply}
 use Rattle.kinds.specs.declared.Held.{Held}
 use Rattle.table.specs.declared.Named.{Named}
@@ -21,10 +21,13 @@ use Rattle.messages.specs.declared.Asked.the-variants.{Refused, Order}
 use Rattle.messages.specs.Rows.{Row, firstOf}
 use Rattle.table.specs.Table.{messageOf}
 use Rattle.messages.specs.Asked.{askedRows, numberGiven}
+use Rattle.calls.specs.declared.Told.{Told}
+use Rattle.calls.specs.declared.Told.the-variants.{Untested}
 use Rattle.calls.specs.Calls.{Areas, Call, Outcome, lengthsOf}
-use Rattle.refusals.specs.Refusals.{areaRows, earlyRows, lateRows, silent, silentOf, toldOf, backRows, backRefusalOf}
+use Rattle.refusals.specs.Refusals.{axesFit, releaseFits, areaRows, earlyRows, lateRows, silent, silentOf, toldOf, backRows, backRefusalOf}
 use Rattle.link.specs.Answer.{held, asked, areasAfter, textOf, unanswered, answerOf, backOf}
-use Rattle.link.proofs.Answering.{frame-number, asked-number, heard-number}
+use Rattle.refusals.proofs.Rows.{AreasPass, past-areas, ownNumber, lateNumber, earlyNumber, early-rows, silent-is, told-untested}
+use Rattle.link.proofs.Answering.{silent-answer, frame-number, asked-number, heard-number}
 use Rattle.demands.specs.Refused.{OneNumber, frameNumbers, backNumbers, among, NoOtherNumber, ChangesNothing, OneReply, ErrorsAgree, asksWrite, QueryChangesNothing}
 
 -- an answer, by whether its frame was heard
@@ -38,6 +41,27 @@ answer-either c P f g = either P (eqb (silentOf c) 0) (λ e. f (eqb-true _ _ e))
 -- what is told of the sum is what the tests tell
 pub told-is : (c : Call) → answerOf c .sum ≡ toldOf c
 told-is c = answer-either c (λ (o : Outcome). o .sum ≡ toldOf c) (λ _. refl) (λ _. refl)
+
+-- what passes the tests before 6 and isn't shaped is refused by 6, with the sum untested
+pub by-six : (c : Call) → ltb (length (c .sent .reply)) 1024 ≡ false → AreasPass (lengthsOf (c .areas)) (c .areas .journal) (c .areas .kept)
+    → axesFit (c .sent .axes) (c .sent .settings .fitted) ≡ true → releaseFits (c .sent .settings .release) ≡ true → shaped (c .sent .frame) ≡ false
+    → answerOf c ≡ unanswered Untested 6 (c .areas)
+by-six c reply areas axes release shape =
+    let l = lengthsOf (c .areas) in
+    let early = early-rows (length (c .sent .reply)) (c .sent .frame) (c .sent .axes) (c .sent .settings) l (c .areas .journal) (c .areas .kept) ∙ six 0 in
+    silent-answer c 6 (sym (silent-is c ∙ six (lateNumber (c .sent .settings) (c .sent .frame) 0))) (λ z. omega (arith, z))
+    ∙ ap (λ (t : Told). unanswered t 6 (c .areas)) (told-untested (c .sent .settings .release) (c .sent .frame) (λ z. let n : _≡_ {A = ℕ} 6 0 = sym early ∙ z in omega (arith, n)))
+  where
+    -- whatever comes behind
+    six : (k : ℕ) → earlyNumber (length (c .sent .reply)) (c .sent .frame) (c .sent .axes) (c .sent .settings) (lengthsOf (c .areas)) (c .areas .journal) (c .areas .kept) k ≡ 6
+    six k =
+        rw (
+          reply,
+          past-areas (lengthsOf (c .areas)) (c .areas .journal) (c .areas .kept) areas (ownNumber (c .sent .axes) (c .sent .settings) (c .sent .frame) k),
+          axes,
+          release,
+          shape,
+        )
 
 back-number : (a : Areas) → backOf a .number ≡ backRefusalOf a
 unfolding backOf

@@ -23,7 +23,7 @@ use Rattle.calls.specs.declared.Told.{Told}
 use Rattle.calls.specs.declared.Told.the-variants.{Untested, Said}
 use Rattle.calls.specs.Calls.{Call, Outcome, lengthsOf}
 use Rattle.refusals.specs.Refusals.{areaRows, earlyRows, lateRows, early, silentOf, toldOf}
-use Rattle.refusals.proofs.Rows.{forbidden, lateNumber, earlyNumber, early-rows, late-rows, late-by, past-early, early-passed, early-given, silent-is, call-passed, told-untested, told-said, same-told-after}
+use Rattle.refusals.proofs.Rows.{EarlyPassed, forbidden, lateNumber, earlyNumber, early-rows, late-rows, late-by, past-early, early-passed, early-given, silent-is, call-passed, told-untested, told-said, same-told-after}
 use Rattle.link.specs.Answer.{held, asked, textOf, areasAfter, unanswered, answerOf}
 use Rattle.link.proofs.Answering.{silent-answer, heard-answer, asked-number}
 use Rattle.demands.specs.Refused.{among}
@@ -35,7 +35,7 @@ use Rattle.demands.proofs.Commands.{high, low, summed}
 use Rattle.demands.proofs.Alike.{same-text, same-areas, same-but-sum, text-alike}
 
 -- the number that the sum and the station give
-abbrev pub lateBy : Sum → Bool → Bool → ℕ
+abbrev lateBy : Sum → Bool → Bool → ℕ
 lateBy s unchecked ours = cond (isOff s && not unchecked) 12 (cond (isWrong s) 7 (cond (not ours) 8 0))
 
 is-seven : (s : Sum) (u o : Bool) → lateBy s u o ≡ 7 → s ≡ Wrong
@@ -62,17 +62,24 @@ untested-not {s} e = let z : _≡_ {A = ℕ} 0 1 = ap tag e in omega (arith, z)
     tag (Said s) = 1
 
 -- a call's tests before the sum, with what comes behind them
-abbrev pub earlyOf : Call → ℕ → ℕ
+abbrev earlyOf : Call → ℕ → ℕ
 earlyOf c = earlyNumber (length (c .sent .reply)) (c .sent .frame) (c .sent .axes) (c .sent .settings) (lengthsOf (c .areas)) (c .areas .journal) (c .areas .kept)
 
 pub early-of : (c : Call) → firstOf (early c) ≡ earlyOf c 0
 early-of c = early-rows (length (c .sent .reply)) (c .sent .frame) (c .sent .axes) (c .sent .settings) (lengthsOf (c .areas)) (c .areas .journal) (c .areas .kept)
 
--- what no test before the sum refuses has the number that the sum and the station give it
+-- what no test before the sum refuses passes them, and has the number that the sum and the station give it
+pub early-passes : (c : Call) → firstOf (early c) ≡ 0
+    → EarlyPassed (length (c .sent .reply)) (c .sent .frame) (c .sent .axes) (c .sent .settings) (lengthsOf (c .areas)) (c .areas .journal) (c .areas .kept)
+early-passes c e =
+    early-passed (length (c .sent .reply)) (c .sent .frame) (c .sent .axes) (c .sent .settings) (lengthsOf (c .areas)) (c .areas .journal) (c .areas .kept)
+    (sym (early-of c) ∙ e)
+    .0
+
 late : (c : Call) → firstOf (early c) ≡ 0 → (k : ℕ) → earlyOf c k ≡ k
 late c e k =
     past-early (length (c .sent .reply)) (c .sent .frame) (c .sent .axes) (c .sent .settings) (lengthsOf (c .areas)) (c .areas .journal) (c .areas .kept)
-    (early-passed (length (c .sent .reply)) (c .sent .frame) (c .sent .axes) (c .sent .settings) (lengthsOf (c .areas)) (c .areas .journal) (c .areas .kept) (sym (early-of c) ∙ e) .0)
+    (early-passes c e)
     k
 
 early-silent : (c : Call) → (firstOf (early c) ≡ 0 → ⊥) → silentOf c ≡ firstOf (early c)

@@ -22,18 +22,16 @@ use Rattle.kinds.specs.Kinds.{heldIn}
 use Rattle.table.specs.declared.Named.{Named}
 use Rattle.messages.specs.Asked.{askedOf, judged, numberGiven}
 use Rattle.messages.proofs.Judged.{Right, ordered}
-use Rattle.calls.specs.declared.Told.{Told}
 use Rattle.calls.specs.Calls.{Areas, Sent, Call, Outcome, lengthsOf}
 use Rattle.refusals.specs.Refusals.{silentOf}
-use Rattle.refusals.proofs.Rows.{area-rows, areas-pass, past-areas, ownNumber, lateNumber, earlyNumber, early-rows, silent-is, call-passed, told-untested}
+use Rattle.refusals.proofs.Rows.{area-rows, areas-pass, call-passed}
 use Rattle.refusals.proofs.Tested.{shape}
-use Rattle.link.specs.Answer.{held, asked, unanswered, answerOf}
-use Rattle.link.proofs.Answering.{silent-answer}
+use Rattle.link.specs.Answer.{held, asked, answerOf}
 use Rattle.demands.specs.Refused.{asksWrite}
 use Rattle.demands.specs.History.{ours}
 use Rattle.demands.specs.Reading.{before as beforeSC, asking, Host, allowed}
 use Rattle.demands.specs.TestCalls.{testCall, handed, toFound, Unrefused, SaidBack, EveryTestCall, OtherLength, NoErrorReply, TestCalls}
-use Rattle.demands.proofs.Refused.{answer-either, silent-low, query-changes-nothing}
+use Rattle.demands.proofs.Refused.{by-six, answer-either, silent-low, query-changes-nothing}
 use Rattle.demands.proofs.Commands.{testFits, framed, framed-long, ends, before-long, high, low, two-bytes, testing, message-of, named}
 use Rattle.demands.proofs.Replied.{test-call-back}
 use Rattle.demands.proofs.Asking.{Open, TakenAs, taken-as}
@@ -149,28 +147,11 @@ twenty f e s = eqb-true _ _ (rw (test-id f .1 e) at (shape f s .test-call))
 
 other-length : OtherLength ours
 other-length a e h host f m n =
-    let c = handed a h f in
-    let early = early-rows (length (h .reply)) f (h .axes) (h .settings) (lengthsOf a) (a .journal) (a .kept) ∙ six 0 in
-    silent-answer c 6 (sym (silent-is c ∙ six (lateNumber (h .settings) f 0))) (λ z. omega (arith, z))
-    ∙ ap (λ (t : Told). unanswered t 6 a) (told-untested (h .settings .release) f (λ z. let n : _≡_ {A = ℕ} 6 0 = sym early ∙ z in omega (arith, n)))
+    by-six (handed a h f) (le-ltb (length (h .reply)) 1024 (host .reply-long)) (opened a e) (host .axes-fit) (host .release-fits) (go (shaped f) refl)
   where
-    no-shape : shaped f ≡ false
-    no-shape = go (shaped f) refl
-      where
-        go : (b : Bool) → shaped f ≡ b → shaped f ≡ false
-        go true s = absurd (n (twenty f m s))
-        go false s = s
-
-    -- whatever comes behind
-    six : (k : ℕ) → earlyNumber (length (h .reply)) f (h .axes) (h .settings) (lengthsOf a) (a .journal) (a .kept) k ≡ 6
-    six k =
-        rw (
-          le-ltb (length (h .reply)) 1024 (host .reply-long),
-          past-areas (lengthsOf a) (a .journal) (a .kept) (opened a e) (ownNumber (h .axes) (h .settings) f k),
-          host .axes-fit,
-          host .release-fits,
-          no-shape,
-        )
+    go : (b : Bool) → shaped f ≡ b → shaped f ≡ false
+    go true s = absurd (n (twenty f m s))
+    go false s = s
 
 -- one that is heard is accepted
 module _ (c : Call) (e : messageIn (c .sent .frame) ≡ text "200") where

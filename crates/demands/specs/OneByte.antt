@@ -18,18 +18,18 @@ use Rattle.link.specs.Answer.{unanswered}
 use Rattle.demands.specs.History.{Conduct}
 use Rattle.demands.specs.TestCalls.{handed}
 
+-- "a frame with a true SC that passes tests 6 and 7", where "nothing before 6 refuses the call": no test up to 6 does, and 7 is passed by that SC
+pub record Passes (release : ℕ) (c : Call) : Type 0 where
+  pub release-is : c .sent .settings .release ≡ release
+  pub to-six : firstOf (early c) ≡ 0
+  pub true-sc : sumTrue release (c .sent .frame) ≡ true
+
 -- "change exactly one of its bytes to any other value": two frames of the same length that differ at one place, by two bytes
 pub record Changed (place : ℕ) (frame frame′ : List ℕ) : Type 0 where
   pub same-length : length frame′ ≡ length frame
   pub differs : getD frame′ place 0 ≡ getD frame place 0 → ⊥
   pub elsewhere : (other : ℕ) → (other ≡ place → ⊥) → getD frame′ other 0 ≡ getD frame other 0
   pub bytes : (getD frame place 0 < 256) × (getD frame′ place 0 < 256)
-
--- "a frame with a true SC that passes tests 6 and 7", where "nothing before 6 refuses the call": no test up to 6 does, and 7 is passed by that SC
-pub record Passes (release : ℕ) (c : Call) : Type 0 where
-  pub release-is : c .sent .settings .release ≡ release
-  pub to-six : firstOf (early c) ≡ 0
-  pub true-sc : sumTrue release (c .sent .frame) ≡ true
 
 -- what a board answers to the call with another frame
 abbrev pub toChanged : Conduct → Call → List ℕ → Outcome
@@ -55,7 +55,7 @@ pub record OnlySize (place : ℕ) (frame frame′ : List ℕ) : Type 0 where
   pub of-sc : (place + 4 ≡ length frame) ⊎ (place + 3 ≡ length frame)
   pub same-letter : capital (getD frame′ place 0) ≡ capital (getD frame place 0)
 
--- "Under release 2 the same holds unless" it is
+-- "Under release 2 the same holds unless" it is such a letter
 abbrev pub CaughtUnderTwo : Conduct → Type 0
 CaughtUnderTwo board =
     (c : Call) → Passes 2 c → (place : ℕ) (frame′ : List ℕ) → Changed place (c .sent .frame) frame′ → (OnlySize place (c .sent .frame) frame′ → ⊥)

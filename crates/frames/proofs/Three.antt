@@ -1,5 +1,5 @@
 -- The sum test's three answers (02, f): a true SC is not '@@', so one of them holds.
-use Prim.Native.Nat.{ℕ, _≤_}
+use Prim.Native.Nat.{ℕ, zero, suc, _≤_}
 use mathlib.Core.Path.{_≡_, refl, sym, ap}
 use mathlib.Core.Logic.{_↔_}
 use mathlib.Core.Bool.{Bool, true, false, cond, not, _&&_, _||_, true≢false, false≢true}
@@ -17,11 +17,12 @@ use Rattle.frames.specs.Frame.{scIn, sumTrue, sumOff, sumSaid, isWrong}
 use Rattle.frames.specs.Laws.{OneOfThree}
 use Rattle.frames.proofs.Bools.{and-false}
 
--- '@' is no digit, under any release
-at-sign : (r : ℕ) (s : List ℕ) → getD s 0 0 ≡ 0x40 → admitted r s ≡ false
+-- '@' is no digit, under any release and wherever it stands
+pub at-sign : (r : ℕ) (s : List ℕ) (i : ℕ) → getD s i 0 ≡ 0x40 → admitted r s ≡ false
 unfolding admits
-at-sign r [] e = absurd (omega (arith, e))
-at-sign r (b ∷ s) e = rw (e, and-false (eqb r 2))
+at-sign r [] i e = absurd (omega (arith, e))
+at-sign r (b ∷ s) zero e = rw (e, and-false (eqb r 2))
+at-sign r (b ∷ s) (suc i) e = rw (at-sign r s i e, and-false (admits r b))
 
 -- at most two bytes that are both '@'
 two : (s : List ℕ) → length s ≤ 2 → getD s 0 0 ≡ 0x40 → getD s 1 0 ≡ 0x40 → s ≡ text "@@"
@@ -40,7 +41,7 @@ module _ (release : ℕ) (frame : List ℕ) where
   -- a frame that is switched off has no true SC
   pub off-not-true : sumOff frame ≡ true → sumTrue release frame ≡ false
   unfolding sumOff sumTrue
-  off-not-true e = rw (at-sign release (scIn frame) (eqb-true _ _ (and-left (eqb (getD (scIn frame) 0 0) 0x40) (eqb (getD (scIn frame) 1 0) 0x40) e)))
+  off-not-true e = rw (at-sign release (scIn frame) 0 (eqb-true _ _ (and-left (eqb (getD (scIn frame) 0 0) 0x40) (eqb (getD (scIn frame) 1 0) 0x40) e)))
 
   -- each answer, from the two tests
   pub said-off : sumOff frame ≡ true → sumSaid release frame ≡ SwitchedOff

@@ -3,7 +3,7 @@ use Prim.Native.Nat.{ℕ, _<_}
 use Prim.Native.String.{String}
 use mathlib.Core.Path.{_≡_, refl, ap}
 use mathlib.Core.Logic.{_⊎_, inl, inr}
-use mathlib.Core.Bool.{Bool, true, false, not, _&&_, false≢true}
+use mathlib.Core.Bool.{true, false}
 use mathlib.Core.List.{List}
 use native.Mathlib.Omega.{arith}
 use lib.Dec.{eqb, ltb}
@@ -43,13 +43,15 @@ one-byte-examples =
       second-letter = record { of-sc = inr refl; same-letter = refl };
       first-letter = record { of-sc = inl refl; same-letter = refl };
       each-byte = refl;
-      test-call = (refl, refl, refl);
+      test-call = (refl, refl, refl, refl);
+      of-20-bytes = (refl, refl);
       only-size = (refl, refl);
       of-content = (refl, refl, refl);
       code = (refl, refl, refl);
       two-changed = (refl, refl, refl);
       two-exchanged = (refl, refl, refl);
       off-changed = refl;
+      off-test-call = (refl, refl, refl);
       off-code = ((refl, refl, refl), (refl, refl, refl));
     }
 
@@ -60,20 +62,10 @@ number o = o .number
 abbrev lastDigit : Outcome → ℕ
 lastDigit o = getD (o .areas .columns) 3 0
 
--- a byte of a frame that is another one
-other : (f : String) (place b : ℕ) → ltb place (length (text f)) && (ltb (getD (text f) place 0) 256 && (ltb b 256 && not (eqb b (getD (text f) place 0)))) ≡ true
-    → Changed place (text f) (set (text f) place b)
-other f place b e =
-    go (ltb place (length (text f))) (ltb (getD (text f) place 0) 256) (ltb b 256) (eqb b (getD (text f) place 0)) refl refl refl refl e
-  where
-    go : (p q r s : Bool) → ltb place (length (text f)) ≡ p → ltb (getD (text f) place 0) 256 ≡ q → ltb b 256 ≡ r → eqb b (getD (text f) place 0) ≡ s
-        → p && (q && (r && not s)) ≡ true
-        → Changed place (text f) (set (text f) place b)
-    go true true true false i j k l _ = any-change (text f) place b (ltb-true _ _ i) (ltb-true _ _ j) (ltb-true _ _ k) (eqb-false _ _ l)
-    go true true true true i j k l z = absurd (false≢true z)
-    go true true false s i j k l z = absurd (false≢true z)
-    go true false r s i j k l z = absurd (false≢true z)
-    go false q r s i j k l z = absurd (false≢true z)
+-- a byte of a frame that is another one, by computing
+other : (f : String) (place b : ℕ) → ltb place (length (text f)) ≡ true → ltb (getD (text f) place 0) 256 ≡ true → ltb b 256 ≡ true
+    → eqb b (getD (text f) place 0) ≡ false → Changed place (text f) (set (text f) place b)
+other f place b i j k l = any-change (text f) place b (ltb-true _ _ i) (ltb-true _ _ j) (ltb-true _ _ k) (eqb-false _ _ l)
 
 -- a letter of the content is none of the SC's, and '@' is no letter
 not-sc : OnlySize 7 (text "!992120F9E\r\n") (text "!992120f9E\r\n") → ⊥
@@ -93,27 +85,27 @@ one-byte-broken =
     let ok = passes 1 (inl refl) in
     let ok-two = passes 2 (inr refl) in
     let poll : String = "!992082D\r\n" in
-    let small = other poll 7 0x64 refl in
+    let small = other poll 7 0x64 refl refl refl refl in
     record {
       without-first = λ e.
           let test : String = "!99200012345678932\r\n" in
-          let f : _≡_ {A = ℕ} 0 7 = ap number (e (sent 1 test) (record { release-is = refl; to-six = refl; true-sc = refl }) 6 _ (other test 6 0x51 refl)) in
+          let f : _≡_ {A = ℕ} 0 7 = ap number (e (sent 1 test) (record { release-is = refl; to-six = refl; true-sc = refl }) 6 _ (other test 6 0x51 refl refl refl refl)) in
           omega (arith, f);
-      seven-bits = λ e. let f : _≡_ {A = ℕ} 0 7 = ap number (e (sent 1 poll) ok 6 _ (other poll 6 0x41 refl)) in omega (arith, f);
-      first-digit = λ e. let f : _≡_ {A = ℕ} 0 7 = ap number (e (sent 1 poll) ok 7 _ (other poll 7 0x45 refl)) in omega (arith, f);
+      seven-bits = λ e. let f : _≡_ {A = ℕ} 0 7 = ap number (e (sent 1 poll) ok 6 _ (other poll 6 0x41 refl refl refl refl)) in omega (arith, f);
+      first-digit = λ e. let f : _≡_ {A = ℕ} 0 7 = ap number (e (sent 1 poll) ok 7 _ (other poll 7 0x45 refl refl refl refl)) in omega (arith, f);
       of-capitals = λ e.
           let axes : String = "!992120F9E\r\n" in
           let f : _≡_ {A = ℕ} 0 7 =
-          ap number (e (sent 2 axes) (record { release-is = refl; to-six = refl; true-sc = refl }) 7 _ (other axes 7 0x66 refl) not-sc) in
+          ap number (e (sent 2 axes) (record { release-is = refl; to-six = refl; true-sc = refl }) 7 _ (other axes 7 0x66 refl refl refl refl) not-sc) in
           omega (arith, f);
-      once-is-off = λ e. let f : _≡_ {A = ℕ} 0 7 = ap number (e (sent 2 poll) ok-two 6 _ (other poll 6 0x40 refl) not-letter) in omega (arith, f);
+      once-is-off = λ e. let f : _≡_ {A = ℕ} 0 7 = ap number (e (sent 2 poll) ok-two 6 _ (other poll 6 0x40 refl refl refl refl) not-letter) in omega (arith, f);
       either-always = λ e. let f : _≡_ {A = ℕ} 0 7 = ap number (e (sent 1 poll) ok 7 _ small) in omega (arith, f);
       capitals-always = λ e. e (sent 2 poll) ok-two 7 _ small (record { of-sc = inr refl; same-letter = refl }) .not-seven refl;
       all-wrong = λ e. e (sent 2 poll) ok-two 7 _ small (record { of-sc = inr refl; same-letter = refl }) .not-seven refl;
-      seven-for-six = λ e. let f : _≡_ {A = ℕ} 7 6 = ap number (e (sent 1 poll) ok 9 _ (other poll 9 0x0B refl)) in omega (arith, f);
+      seven-for-six = λ e. let f : _≡_ {A = ℕ} 7 6 = ap number (e (sent 1 poll) ok 9 _ (other poll 9 0x0B refl refl refl refl)) in omega (arith, f);
       done-then-refused = λ e.
           let code : String = "!9924E0012C04303034373F\r\n" in
           let f : _≡_ {A = ℕ} 0x38 0 =
-          ap lastDigit (e (sent 1 code) (record { release-is = refl; to-six = refl; true-sc = refl }) 20 _ (other code 20 0x38 refl)) in
+          ap lastDigit (e (sent 1 code) (record { release-is = refl; to-six = refl; true-sc = refl }) 20 _ (other code 20 0x38 refl refl refl refl)) in
           omega (arith, f);
     }

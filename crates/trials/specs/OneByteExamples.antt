@@ -58,8 +58,12 @@ pub record OneByteExamples : Type 0 where
   pub first-letter : OnlySize 8 (text "!99212FFb4\r\n") (text "!99212FFB4\r\n")
   -- each byte of a 208H with a true SC changed alone: 6 for '!', CR and LF, else 7
   pub each-byte : eachChanged "!992082D\r\n" ≡ 6 ∷ 7 ∷ 7 ∷ 7 ∷ 7 ∷ 7 ∷ 7 ∷ 7 ∷ 6 ∷ 6 ∷ []
-  -- 6 where the ID becomes '200' in ten bytes; 7 where a test call's becomes '201', or one of its ten bytes changes
-  pub test-call : (numbered 1 "!992002D\r\n" ≡ 6) × (numbered 1 "!99201012345678932\r\n" ≡ 7) × (numbered 1 "!99200Q12345678932\r\n" ≡ 7)
+  -- 6 where the ID becomes '200' in ten bytes; 7 where a test call's becomes '201', or one of its ten bytes changes, and where a 20DH's, of 20 bytes too,
+  -- becomes '200'
+  pub test-call :
+      (numbered 1 "!992002D\r\n" ≡ 6) × (numbered 1 "!99200012345678932\r\n" ≡ 0) × (numbered 1 "!99201012345678932\r\n" ≡ 7)
+      × (numbered 1 "!99200Q12345678932\r\n" ≡ 7)
+  pub of-20-bytes : (numbered 1 "!9920D000258000129\r\n" ≡ 0) × (numbered 1 "!99200000258000129\r\n" ≡ 7)
   -- the exception: accepted under release 2, 7 under release 1; a letter of the content is 7 under both
   pub only-size : (numbered 2 "!992082d\r\n" ≡ 0) × (numbered 1 "!992082d\r\n" ≡ 7)
   pub of-content : (numbered 2 "!992120F9E\r\n" ≡ 0) × (numbered 2 "!992120f9E\r\n" ≡ 7) × (numbered 1 "!992120f9E\r\n" ≡ 7)
@@ -67,9 +71,11 @@ pub record OneByteExamples : Type 0 where
   pub code : Stores "!9924E0012C04303034373F\r\n" True "0047"
   pub two-changed : Stores "!9924E0012C04303035363F\r\n" True "0056"
   pub two-exchanged : Stores "!9924E0012C04303037343F\r\n" True "0074"
-  -- nor, with '@@', any byte but the SC's own: '!', CR and LF are 6, the station is 8, the ID an unknown message (101) or another (103), and a digit is
-  -- stored
+  -- nor, with '@@', any byte: '!', CR and LF are 6, the station is 8, the ID an unknown message (101) or another (103), one '@' is 7; an ID that becomes
+  -- '200' is 6 in ten bytes and accepted in 20; a digit of a lot code is stored
   pub off-changed : eachChanged "!99208@@\r\n" ≡ 6 ∷ 8 ∷ 8 ∷ 101 ∷ 101 ∷ 103 ∷ 7 ∷ 7 ∷ 6 ∷ 6 ∷ []
+  pub off-test-call :
+      (numbered 1 "!99200@@\r\n" ≡ 6) × (numbered 1 "!9920D0002580001@@\r\n" ≡ 0) × (numbered 1 "!992000002580001@@\r\n" ≡ 0)
   pub off-code : Stores "!9924E0012C0430303437@@\r\n" SwitchedOff "0047" × Stores "!9924E0012C0430303438@@\r\n" SwitchedOff "0048"
 
 -- a board that takes an SC for true also where this says so
@@ -78,7 +84,7 @@ trusting says =
     honestBut (λ c o.
     cond (eqb (o .number) 7 && says (c .sent .frame)) (answerOf (handed (c .areas) (c .sent) (closed (beforeSC (c .sent .frame))))) o)
 
--- a sum without the first byte, one of 7 bits, one whose first digit alone is compared, and one of capitals
+-- the SC of a sum without the first byte, of 7 bits of the sum, one whose first digit alone is compared, and that of capitals
 abbrev pub withoutFirst : Conduct
 withoutFirst = trusting (λ f. eqb (numberOf (scIn f)) (lowByte (drop 1 (beforeSC f))))
 
@@ -91,7 +97,7 @@ firstDigit = trusting (λ f. eqb (getD (scIn f) 0 0) (getD (scOf (beforeSC f)) 0
 abbrev pub ofCapitals : Conduct
 ofCapitals = trusting (λ f. sumTrue 2 (capitals f))
 
--- 7 for every frame that passes 6, and 7 where 6 refuses
+-- 7 for all that 6 doesn't refuse, and 7 where 6 refuses
 abbrev pub allWrong : Conduct
 allWrong = honestBut (λ c o. cond (eqb (o .number) 6) o (unanswered (Said Wrong) 7 (c .areas)))
 
