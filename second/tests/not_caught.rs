@@ -224,33 +224,86 @@ fn handed(mut received: &[u8]) -> Vec<Vec<u8>> {
 
 const QUERY: &[u8] = b"!992082D\r\n";
 const REPLY: &[u8] = b"#99208000BF\r\n";
+/// No CR LF among its ten.
+const TEST_CALL: &[u8] = b"!99200001234567829\r\n";
+/// A 20DH of eight flags, before its SC.
+const FLAGS: &[u8] = b"!9920D0002580008";
+
+/// All of these bytes are handed over as one frame, and it is 7.
+fn handed_over_whole(line: &[u8]) {
+    assert_eq!(handed(line), [line]);
+    assert_eq!(told(line, 1, 1).0, 7, "{}", line.escape_ascii());
+}
+
+/// Of these bytes the query alone is handed over, and answered.
+fn only_the_query_is_found(line: &[u8]) {
+    assert_eq!(handed(line), [QUERY], "{}", line.escape_ascii());
+    assert_eq!(replies(line), REPLY);
+}
+
+/// By itself this is 6; on a line its '!' is skipped, and a query behind it is found.
+fn skipped(changed: &[u8]) {
+    assert_eq!(told(changed, 1, 1).0, 6, "{}", changed.escape_ascii());
+    only_the_query_is_found(&[changed, QUERY].concat());
+}
 
 #[test]
 fn a_changed_header_is_never_handed_over() {
     assert_eq!(replies(&[QUERY, QUERY].concat()), [REPLY, REPLY].concat());
     assert_eq!(handed(b"\"992082D\r\n"), Vec::<Vec<u8>>::new());
-    assert_eq!(replies(&[b"\"992082D\r\n", QUERY].concat()), REPLY);
+    only_the_query_is_found(&[b"\"992082D\r\n", QUERY].concat());
 }
 
 #[test]
 fn after_a_changed_line_end_two_frames_are_handed_over_as_one() {
-    let line = [b"!992082D\rJ", QUERY].concat();
-    assert_eq!(handed(&line), std::slice::from_ref(&line));
-    assert_eq!(told(&line, 1, 1).0, 7);
+    handed_over_whole(&[b"!992082D\rJ", QUERY].concat());
     // The first frame's bytes but CR make 1ADH, with 53H 200H: the second's SC is true of both.
-    let line = [b"!992082DS\n", WRITE].concat();
-    assert_eq!(handed(&line), std::slice::from_ref(&line));
-    let (number, sum, board) = told(&line, 1, 1);
-    assert_eq!((number, sum, stored(&board)), (102, TRUE, Vec::new()));
+    for (second, said) in [(WRITE, TRUE), (MARKED, SWITCHED_OFF)] {
+        let line = [b"!992082DS\n", second].concat();
+        assert_eq!(handed(&line), [&line[..]]);
+        let (number, sum, board) = told(&line, 1, 1);
+        assert_eq!((number, sum, stored(&board)), (102, said, Vec::new()));
+    }
+}
+
+#[test]
+fn a_test_call_with_a_changed_line_end_is_skipped() {
+    skipped(&with(TEST_CALL, &[(18, b'J')]));
+    skipped(&with(TEST_CALL, &[(19, b'J')]));
 }
 
 #[test]
 fn a_208h_made_200h_takes_the_next_frame_with_it() {
-    let line = [b"!992002D\r\n", QUERY].concat();
-    assert_eq!(handed(&line), std::slice::from_ref(&line));
+    let changed = with(QUERY, &[(5, b'0')]);
+    let line = [&changed, QUERY].concat();
+    handed_over_whole(&line);
     assert!(has_shape(&line));
-    assert_eq!(told(&line, 1, 1).0, 7);
-    assert_eq!(told(&line[..10], 1, 1).0, 6);
+    assert_eq!(told(&changed, 1, 1).0, 6);
+    // But not where that ends elsewhere: the '!' is skipped.
+    assert_eq!(handed(&[&changed, WRITE].concat()), [WRITE]);
+}
+
+#[test]
+fn a_frame_of_20_bytes_made_200h_is_handed_over_whole() {
+    let flags = closed(FLAGS.to_vec());
+    assert_eq!((flags.len(), accepted(&flags)), (20, Vec::new()));
+    handed_over_whole(&with(&flags, &[(5, b'0')]));
+}
+
+#[test]
+fn a_longer_frame_made_200h_is_skipped() {
+    let long = closed([FLAGS, b"0"].concat());
+    let (number, sum, _) = told(&long, 1, 1);
+    assert_eq!((long.len(), number, sum), (21, 103, TRUE));
+    skipped(&with(&long, &[(5, b'0')]));
+}
+
+#[test]
+fn a_test_call_without_line_ends_made_another_is_handed_over_whole() {
+    assert_eq!(accepted(TEST_CALL), []);
+    for at in 3..6 {
+        handed_over_whole(&with(TEST_CALL, &[(at, b'1')]));
+    }
 }
 
 #[test]
@@ -260,7 +313,7 @@ fn a_frame_inside_a_test_call_is_found_where_the_test_calls_header_changed() {
     assert_eq!(replies(&test_call), closed([b"#99200", QUERY].concat()));
     let changed = with(&test_call, &[(0, b' ')]);
     assert_eq!(told(&changed, 1, 1).0, 6);
-    assert_eq!((handed(&changed), replies(&changed)), (vec![QUERY.to_vec()], REPLY.to_vec()));
+    only_the_query_is_found(&changed);
     // A changed ID ends the frame at the query's line end, with its SC for that of all.
     let changed = with(&test_call, &[(5, b'1')]);
     assert_eq!(told(&changed, 1, 1).0, 7);

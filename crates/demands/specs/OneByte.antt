@@ -24,7 +24,7 @@ pub record Passes (release : ℕ) (c : Call) : Type 0 where
   pub to-six : firstOf (early c) ≡ 0
   pub true-sc : sumTrue release (c .sent .frame) ≡ true
 
--- "change exactly one of its bytes to any other value": two frames of the same length that differ at one place, by two bytes
+-- "change exactly one of its bytes to any other value": two frames of the same length that differ at one place, where each has a byte
 pub record Changed (place : ℕ) (frame frame′ : List ℕ) : Type 0 where
   pub same-length : length frame′ ≡ length frame
   pub differs : getD frame′ place 0 ≡ getD frame place 0 → ⊥
@@ -50,7 +50,8 @@ abbrev pub CaughtUnderOne : Conduct → Type 0
 CaughtUnderOne board =
     (c : Call) → Passes 1 c → (place : ℕ) (frame′ : List ℕ) → Changed place (c .sent .frame) frame′ → Caught board c place frame′
 
--- "the byte is an SC letter that only changed between capital and small": one of the two SC places, and two bytes that are the same in capitals
+-- "the byte is an SC letter that only changed between capital and small": one of the two SC places, and two bytes that are the same in capitals; where
+-- they differ, as in a changed frame, that is one letter, once small and once capital
 pub record OnlySize (place : ℕ) (frame frame′ : List ℕ) : Type 0 where
   pub of-sc : (place + 4 ≡ length frame) ⊎ (place + 3 ≡ length frame)
   pub same-letter : capital (getD frame′ place 0) ≡ capital (getD frame place 0)
