@@ -55,9 +55,12 @@ one-byte-examples =
       off-code = ((refl, refl, refl), (refl, refl, refl));
     }
 
--- the number of an answer, and what it leaves in column 303
+-- the number of an answer, the first digit of the SC of a 208H's reply, and what it leaves in column 303
 abbrev number : Outcome → ℕ
 number o = o .number
+
+abbrev firstOfSC : Outcome → ℕ
+firstOfSC o = getD (o .text) 9 0
 
 abbrev lastDigit : Outcome → ℕ
 lastDigit o = getD (o .areas .columns) 3 0
@@ -86,6 +89,7 @@ one-byte-broken =
     let ok-two = passes 2 (inr refl) in
     let poll : String = "!992082D\r\n" in
     let small = other poll 7 0x64 refl refl refl refl in
+    let letter : OnlySize 7 (text poll) (text "!992082d\r\n") = record { of-sc = inr refl; same-letter = refl } in
     record {
       without-first = λ e.
           let test : String = "!99200012345678932\r\n" in
@@ -100,8 +104,12 @@ one-byte-broken =
           omega (arith, f);
       once-is-off = λ e. let f : _≡_ {A = ℕ} 0 7 = ap number (e (sent 2 poll) ok-two 6 _ (other poll 6 0x40 refl refl refl refl) not-letter) in omega (arith, f);
       either-always = λ e. let f : _≡_ {A = ℕ} 0 7 = ap number (e (sent 1 poll) ok 7 _ small) in omega (arith, f);
-      capitals-always = λ e. e (sent 2 poll) ok-two 7 _ small (record { of-sc = inr refl; same-letter = refl }) .not-seven refl;
-      all-wrong = λ e. e (sent 2 poll) ok-two 7 _ small (record { of-sc = inr refl; same-letter = refl }) .not-seven refl;
+      capitals-always = λ e. e (sent 2 poll) ok-two 7 _ small letter .not-seven refl;
+      all-wrong = λ e. e (sent 2 poll) ok-two 7 _ small letter .not-seven refl;
+      all-six = λ e. e (sent 2 poll) ok-two 7 _ small letter .not-six refl;
+      small-for-small = λ e.
+          let f : _≡_ {A = ℕ} 0x62 0x42 = ap firstOfSC (e (sent 2 poll) ok-two 7 _ small letter .same-answer) in
+          omega (arith, f);
       seven-for-six = λ e. let f : _≡_ {A = ℕ} 7 6 = ap number (e (sent 1 poll) ok 9 _ (other poll 9 0x0B refl refl refl refl)) in omega (arith, f);
       done-then-refused = λ e.
           let code : String = "!9924E0012C04303034373F\r\n" in

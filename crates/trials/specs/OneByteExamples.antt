@@ -5,15 +5,15 @@ use Prim.Native.String.{String}
 use mathlib.Core.Path.{_≡_}
 use mathlib.Core.Logic.{_⊎_}
 use mathlib.Core.Bool.{Bool, cond, _&&_}
-use mathlib.Core.List.{List, [], _∷_}
+use mathlib.Core.List.{List, [], _∷_, map}
 use lib.Dec.{eqb}
 use lib.ListN.{length, take, drop, getD, set}
-use Rattle.digits.specs.Digits.{capitals, numberOf}
+use Rattle.digits.specs.Digits.{capitals, admitted, numberOf}
 use Rattle.digits.specs.Text.{text}
 use Rattle.frames.specs.declared.checks.Sum.{Sum}
 use Rattle.frames.specs.declared.checks.Sum.the-variants.{True, SwitchedOff, Wrong}
 use Rattle.frames.specs.Frame.{beforeSC, scIn, scOf, lowByte, sumTrue, closed}
-use Rattle.calls.specs.declared.Told.the-variants.{Said}
+use Rattle.calls.specs.declared.Told.the-variants.{Untested, Said}
 use Rattle.calls.specs.Calls.{Call}
 use Rattle.link.specs.Answer.{unanswered, answerOf}
 use Rattle.demands.specs.History.{Conduct}
@@ -22,8 +22,8 @@ use Rattle.demands.specs.Releases.{under}
 use Rattle.demands.specs.OneByte.{Changed, Passes, CaughtUnderOne, OnlySize, CaughtUnderTwo, SizeUnnoticed}
 use Rattle.trials.specs.Cases.{bench}
 use Rattle.trials.specs.Broken.{smallest}
-use Rattle.trials.specs.Useless.{honestBut}
-use Rattle.trials.specs.ReleaseExamples.{capitalsAlways, eitherAlways}
+use Rattle.trials.specs.Useless.{honestBut, saying}
+use Rattle.trials.specs.ReleaseExamples.{capitalsAlways, eitherAlways, small}
 use Rattle.trials.specs.SumExamples.{numbering, onceIsOff}
 
 -- a frame to a bench of two points under a release, and its number
@@ -97,9 +97,12 @@ firstDigit = trusting (λ f. eqb (getD (scIn f) 0 0) (getD (scOf (beforeSC f)) 0
 abbrev pub ofCapitals : Conduct
 ofCapitals = trusting (λ f. sumTrue 2 (capitals f))
 
--- 7 for all that 6 doesn't refuse, and 7 where 6 refuses
+-- 7 for all that 6 doesn't refuse, 6 for all, and 7 where 6 refuses
 abbrev pub allWrong : Conduct
 allWrong = honestBut (λ c o. cond (eqb (o .number) 6) o (unanswered (Said Wrong) 7 (c .areas)))
+
+abbrev pub allSix : Conduct
+allSix = honestBut (λ c o. unanswered Untested 6 (c .areas))
 
 abbrev pub sevenForSix : Conduct
 sevenForSix = honestBut (λ c o. cond (eqb (o .number) 6) (numbering 7 o) o)
@@ -110,6 +113,10 @@ doneThenRefused =
     honestBut (λ c o.
     cond (eqb (o .number) 7) (unanswered (o .sum) 7 (answerOf (handed (c .areas) (c .sent) (closed (beforeSC (c .sent .frame)))) .areas)) o)
 
+-- one that replies in small letters because the SC has one
+abbrev pub smallForSmall : Conduct
+smallForSmall = honestBut (λ c o. cond (admitted 1 (scIn (c .sent .frame))) o (saying (map small (o .text)) o))
+
 pub record OneByteBroken : Type 0 where
   pub without-first : CaughtUnderOne withoutFirst → ⊥
   pub seven-bits : CaughtUnderOne sevenBits → ⊥
@@ -119,5 +126,7 @@ pub record OneByteBroken : Type 0 where
   pub either-always : CaughtUnderOne eitherAlways → ⊥
   pub capitals-always : SizeUnnoticed capitalsAlways → ⊥
   pub all-wrong : SizeUnnoticed allWrong → ⊥
+  pub all-six : SizeUnnoticed allSix → ⊥
+  pub small-for-small : SizeUnnoticed smallForSmall → ⊥
   pub seven-for-six : CaughtUnderOne sevenForSix → ⊥
   pub done-then-refused : CaughtUnderOne doneThenRefused → ⊥
