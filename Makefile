@@ -12,8 +12,10 @@ ARCHIVE := target/staticlib/libboard.a
 TABLES := 731
 READ_ONLY := 1635
 # host/plain.c under the archive's names, and under those that host/benchmark.c gives it where it is compiled at -O3
-AS_ARCHIVE := -Dplain_receive=cabinet_receive -Dplain_answer=cabinet_answer -Dplain_step_back=cabinet_step_back
-AS_O3 := -Dplain_receive=plain_o3_receive -Dplain_answer=plain_o3_answer -Dplain_step_back=plain_o3_step_back
+AS_ARCHIVE := -Dplain_receive=cabinet_receive -Dplain_answer=cabinet_answer -Dplain_check=cabinet_check -Dplain_act=cabinet_act \
+  -Dplain_step_back=cabinet_step_back
+AS_O3 := -Dplain_receive=plain_o3_receive -Dplain_answer=plain_o3_answer -Dplain_check=plain_o3_check -Dplain_act=plain_o3_act \
+  -Dplain_step_back=plain_o3_step_back
 
 # rt says where its toolchain is. Asked only where it is needed: the other targets run without rt.
 MACHINE := $(shell uname -m)
@@ -56,10 +58,11 @@ test: tools
 second: tools
 	cargo test --quiet --offline --manifest-path second/Cargo.toml --target-dir target/second
 
-# include/cabinet.h as C99 and as C++, and the loop that its comment shows, taken from there
+# include/cabinet.h as C99 and as C++, and the panel's use and the loop that its comment shows, taken from there
 header: tools
 	gcc -std=c99 $(STRICT) -fsyntax-only host/compile_header.c
 	g++ -std=c++11 $(STRICT) -fsyntax-only host/compile_header.cpp
+	sed -n "/LOOK BEFORE STORING/,/A HOST'S LOOP/s/^ \*   //p" include/cabinet.h | gcc -std=c99 $(STRICT) -fsyntax-only -x c -
 	sed -n "/A HOST'S LOOP/,/^ \*\//s/^ \*   //p" include/cabinet.h | gcc -std=c99 $(STRICT) -fsyntax-only -x c -
 
 # installs what is missing, as root, and prints the command that does it; where all is there it prints nothing

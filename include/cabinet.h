@@ -1,13 +1,14 @@
 /*
  * cabinet.h: the board's answers to the store's computer, for the board's C host.
  *
- * Three calls: finding a frame in the received bytes (cabinet_receive), answering one frame
- * (cabinet_answer_frame) and the service panel's step back (cabinet_take_back). The last two are made
- * on a struct cabinet, which has all that they need by name; below them stand the archive's own calls
- * on numbers and byte areas, cabinet_answer and cabinet_step_back. What they promise is document 01's
- * and, of integer variables and flags (request a), of test calls with line ends in them (request c), of
- * '@@' forbidden and told (request f) and of small letters (request l), document 02's; section names below
- * are document 01's.
+ * Five calls: finding a frame in the received bytes (cabinet_receive), answering one frame
+ * (cabinet_answer_frame), the same in two halves for a panel that looks before storing
+ * (cabinet_check_frame, cabinet_act_frame), and the service panel's step back (cabinet_take_back). The last
+ * four are made on a struct cabinet, which has all that they need by name; below them stand the archive's
+ * own calls on numbers and byte areas, cabinet_answer, cabinet_check, cabinet_act and cabinet_step_back.
+ * What they promise is document 01's and, of integer variables and flags (request a), of test calls with
+ * line ends in them (request c), of '@@' forbidden and told (request f), of looking before storing (request
+ * g) and of small letters (request l), document 02's; section names below are document 01's.
  *
  * Link with libboard.a. C99 or later, or C++11 or later.
  *
@@ -57,21 +58,23 @@
  *   - Every pointer points to as many bytes as its length says (or to one number) and is never null,
  *     not even where the length is 0.
  *   - An area or number that a call may write (points, columns, integers, flags, journal, reply, *used,
- *     *reply_length, *sum, *start, *length, *drop) overlaps no other one handed to the same call. The frame
- *     may be a part of the received bytes; it is no part of a struct cabinet.
+ *     *reply_length, *sum, *message, *start, *count, *length, *drop) overlaps no other one handed to the same
+ *     call. The frame may be a part of the received bytes; it is no part of a struct cabinet. What a call
+ *     only reads is const; cabinet_check reads all areas and writes none.
  *   - Lengths and bytes may be any: a wrong length, a spoiled byte or a damaged frame is refused as
  *     the table says, and nothing undefined is done.
  *   - For the step back to give back what was there: start fresh, use the same areas throughout, leave
  *     first_integer and first_flag as they were at fresh, hand each call the used length the last one
  *     handed back, and let nothing else write them.
- *   - Calls on different areas may run at the same time; calls on the same areas may not.
+ *   - Calls on different areas may run at the same time; calls on the same areas may not, but that any
+ *     number of checks may.
  *
  *
  * REFUSAL NUMBERS, IN THE ORDER TESTED
  *
  * An accepted call has number 0. Each number is given exactly when its condition holds and none
- * earlier does. The step back tests 2, 3, 10, 4, then 9; answering a frame tests all but 9. Their names
- * are those of enum cabinet_refusal.
+ * earlier does. The step back tests 2, 3, 10, 4, then 9; answering a frame and acting on it test all but 9;
+ * checking it tests all but 1 and 9. Their names are those of enum cabinet_refusal.
  *
  *   No.  When                                                        Reply  Left
  *   ---  ----------------------------------------------------------  -----  ------------------------
@@ -116,6 +119,34 @@
  * The number says what became of the frame: 0 where it was done, 12 where '@@' is forbidden, 8 or 101 to 108
  * where something else was wrong. A frame that an earlier test refuses (1 to 6, 10, 13) is not tested, and
  * so not logged, whatever its SC.
+ *
+ *
+ * LOOK BEFORE STORING
+ *
+ * A panel that shows "write 45 points from 001" and asks before it stores makes two calls in place of
+ * cabinet_answer_frame: it checks, shows, asks, and acts.
+ *
+ *   #include "cabinet.h"
+ *   #include <stdbool.h>
+ *
+ *   bool ask(uint16_t message, size_t start, size_t count);          // these two are the panel's own
+ *   void show(uint16_t number);
+ *
+ *   bool look_and_store(struct cabinet *board, const uint8_t *frame, size_t length)
+ *   {
+ *       struct cabinet_shown shown;
+ *       uint16_t number = cabinet_check_frame(board, frame, length, &shown);      // changes nothing
+ *       if (number == CABINET_ACCEPTED && !ask(shown.message, shown.start, shown.count))
+ *           return false;                                            // nothing was changed or replied
+ *       show(cabinet_act_frame(board, frame, length));               // does it, or refuses it: with the reply
+ *       return number == CABINET_ACCEPTED;
+ *   }
+ *
+ * Acting checks again, by the same rules: it needs no check before it, and where something was changed
+ * between the two it goes by what is there then. With nothing between, check and act give what
+ * cabinet_answer_frame gives, every byte of it, and what the check showed is what is done: a 244H shown with
+ * start 001H and count 45 writes points 1 to 45 and no other, and a query writes none. A refused frame is
+ * refused with the same number by both, and its error reply, where there is one, is written by acting.
  *
  *
  * A HOST'S LOOP
@@ -190,8 +221,10 @@ extern "C" {
  * Version 5: whether '@@' is allowed, in cabinet_answer behind the release and in struct cabinet; refusal 12;
  * what the sum test said, cabinet_answer's last parameter and in struct cabinet. So cabinet_answer has two
  * parameters more; a host with a struct cabinet stays as it is.
+ * Version 6: cabinet_check and cabinet_act, and over a struct cabinet cabinet_check_frame and
+ * cabinet_act_frame. All else is as it was.
  */
-#define CABINET_VERSION 5
+#define CABINET_VERSION 6
 
 /* Lengths in bytes ("The areas", "Frame"), and how many there are: points at most, integers, flags. */
 #define CABINET_SLOT_BYTES 40
@@ -281,7 +314,8 @@ enum cabinet_refusal {
  * byte after it; what it then finds is counted from received[0] all the same, skipped bytes are dropped with
  * the rest, and with no further '!' all is dropped. Any other frame ends at its first CR LF.
  *
- * A frame found may still be refused by cabinet_answer; it may have 3 to 1,023 bytes.
+ * A frame found may still be refused by cabinet_answer, cabinet_check and cabinet_act; it may have 3 to
+ * 1,023 bytes.
  */
 uint8_t cabinet_receive(const uint8_t *received, size_t received_length,
                         size_t *start, size_t *length, size_t *drop);
@@ -345,6 +379,50 @@ uint16_t cabinet_answer(const uint8_t *frame, size_t frame_length,
                         uint16_t first_integer, uint16_t first_flag,
                         uint8_t *reply, size_t reply_area_length, size_t *reply_length,
                         uint8_t *sum);
+
+/*
+ * Checks one frame: says what answering it would do, or its refusal, and changes nothing. No area is
+ * written, and there is no reply. Easier to call: cabinet_check_frame below.
+ *
+ *   frame to first_flag   as in cabinet_answer, all of it only read: the used length by value, no reply area
+ *   sum             out: what the sum test said, as cabinet_answer tells it
+ *   message         out: the ID of the message that would be done, as a number, 0x244 for 244H; 0 where the
+ *                   frame is refused
+ *   start, count    out: the run that the message names, count numbers from start on; of 24BH the flag's
+ *                   number and 1. Both are 0 where it names none (200H, 208H, 212H) and where the frame is
+ *                   refused
+ *
+ * Returns CABINET_ACCEPTED where the frame would be done, else the number that cabinet_act and
+ * cabinet_answer refuse it with where the reply area is long enough: 2 to 8, 10, 12, 13 or 101 to 108, never
+ * 1.
+ */
+uint16_t cabinet_check(const uint8_t *frame, size_t frame_length,
+                       const uint8_t *points, size_t points_length,
+                       const uint8_t *columns, size_t columns_length,
+                       const uint8_t *integers, size_t integers_length,
+                       const uint8_t *flags, size_t flags_length,
+                       const uint8_t *journal, size_t journal_length, size_t used,
+                       const uint8_t *axes, size_t axes_length,
+                       uint8_t fitted, uint8_t station, uint8_t release, uint8_t unchecked,
+                       uint16_t first_integer, uint16_t first_flag,
+                       uint8_t *sum, uint16_t *message, size_t *start, size_t *count);
+
+/*
+ * Acts on one frame: checks it again, by the rules of cabinet_check, and does it, with the reply; or refuses
+ * it. 1 is tested before them. Parameters and result are those of cabinet_answer, and on the same call it
+ * gives the same, every number and every byte. Easier to call: cabinet_act_frame below.
+ */
+uint16_t cabinet_act(const uint8_t *frame, size_t frame_length,
+                     uint8_t *points, size_t points_length,
+                     uint8_t *columns, size_t columns_length,
+                     uint8_t *integers, size_t integers_length,
+                     uint8_t *flags, size_t flags_length,
+                     uint8_t *journal, size_t journal_length, size_t *used,
+                     const uint8_t *axes, size_t axes_length,
+                     uint8_t fitted, uint8_t station, uint8_t release, uint8_t unchecked,
+                     uint16_t first_integer, uint16_t first_flag,
+                     uint8_t *reply, size_t reply_area_length, size_t *reply_length,
+                     uint8_t *sum);
 
 /*
  * Steps back: takes away the latest accepted write that the journal still holds. Easier to call:
@@ -429,6 +507,48 @@ static inline uint16_t cabinet_answer_frame(struct cabinet *board,
                           board->release == 0 ? (uint8_t)CABINET_CAPITALS_ONLY : board->release,
                           board->forbid_unchecked == 0, board->first_integer, board->first_flag,
                           board->reply, sizeof board->reply, &board->reply_length, &board->sum);
+}
+
+/* What cabinet_check_frame says of a frame. */
+struct cabinet_shown {
+    uint16_t message; /* the ID of the message that would be done, 0x244 for 244H; 0 where it is refused */
+    size_t start;     /* the run that the message names: its first number, and how many; of 24BH the flag's */
+    size_t count;     /* number and 1; both 0 where it names none (200H, 208H, 212H) or is refused */
+    uint8_t sum;      /* enum cabinet_sum */
+};
+
+/*
+ * Checks one frame, '!' to CR LF, as cabinet_check does, and changes nothing of the board. Returns
+ * CABINET_ACCEPTED where cabinet_act_frame would do it, else the refusal number, never 1.
+ */
+static inline uint16_t cabinet_check_frame(const struct cabinet *board, const uint8_t *frame,
+                                           size_t frame_length, struct cabinet_shown *shown)
+{
+    return cabinet_check(frame, frame_length, board->points, board->points_length,
+                         board->columns, sizeof board->columns,
+                         board->integers, sizeof board->integers, board->flags, sizeof board->flags,
+                         board->journal, board->journal_length, board->used,
+                         board->axes, sizeof board->axes, board->fitted, board->station,
+                         board->release == 0 ? (uint8_t)CABINET_CAPITALS_ONLY : board->release,
+                         board->forbid_unchecked == 0, board->first_integer, board->first_flag,
+                         &shown->sum, &shown->message, &shown->start, &shown->count);
+}
+
+/*
+ * Acts on one frame, '!' to CR LF, as cabinet_act does: checks it again and does it. Reply, sum and number
+ * as cabinet_answer_frame gives them.
+ */
+static inline uint16_t cabinet_act_frame(struct cabinet *board,
+                                         const uint8_t *frame, size_t frame_length)
+{
+    return cabinet_act(frame, frame_length, board->points, board->points_length,
+                       board->columns, sizeof board->columns,
+                       board->integers, sizeof board->integers, board->flags, sizeof board->flags,
+                       board->journal, board->journal_length, &board->used,
+                       board->axes, sizeof board->axes, board->fitted, board->station,
+                       board->release == 0 ? (uint8_t)CABINET_CAPITALS_ONLY : board->release,
+                       board->forbid_unchecked == 0, board->first_integer, board->first_flag,
+                       board->reply, sizeof board->reply, &board->reply_length, &board->sum);
 }
 
 /*

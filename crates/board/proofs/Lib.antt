@@ -1,2 +1,3 @@
 pub mod Received
 pub mod Answered
+pub mod Checked

@@ -11,11 +11,14 @@ use Rattle.kinds.specs.declared.Firsts.{Firsts}
 use Rattle.calls.specs.declared.Settings.{Settings}
 use Rattle.calls.specs.declared.Kept.{Kept}
 use Rattle.calls.specs.declared.Told.{Told}
-use Rattle.calls.specs.Calls.{Areas, Call, sumCode}
+use Rattle.calls.specs.Calls.{Areas, Call, Outcome, sumCode}
+use Rattle.messages.specs.declared.Shown.{Shown}
+use Rattle.messages.specs.Shown.{shownOf}
 use Rattle.link.specs.declared.Answered.{Answered}
 use Rattle.link.specs.declared.Back.{Back}
 use Rattle.link.specs.Answer.{answerOf}
-use Rattle.link.specs.Contract.{Answers}
+use Rattle.link.specs.Check.{checkOf, actOf}
+use Rattle.link.specs.Contract.{Gives}
 
 -- document 01, "Finding a frame in the received bytes": 0 a frame, 1 nothing, 2 wait, 3 too long
 abbrev pub codeOf : Found → ℕ
@@ -58,10 +61,27 @@ firstsOf integer flag = record { integer = integer; flag = flag }
 abbrev pub answeredOf : ℕ → ℕ → ℕ → Told → Answered
 answeredOf number length used told = record { number = number; length = length; kept = keptOf used; sum = told }
 
--- what `cabinet_answer` gives of a call: the answer, with the code of what it tells
-pub record CabinetAnswers (c : Call) (number length used sum : ℕ) (areas′ : Areas) (reply′ : List ℕ) : Type 0 where
-  pub answers : Answers c (answeredOf number length used (answerOf c .sum)) areas′ reply′
-  pub sum-is : sum ≡ sumCode (answerOf c .sum)
+-- what `cabinet_answer` and `cabinet_act` give of a call: its outcome, with the code of what it tells
+pub record CabinetGives (outcomeOf : Call → Outcome) (c : Call) (number length used sum : ℕ) (areas′ : Areas) (reply′ : List ℕ) : Type 0 where
+  pub gives : Gives outcomeOf c (answeredOf number length used (outcomeOf c .sum)) areas′ reply′
+  pub sum-is : sum ≡ sumCode (outcomeOf c .sum)
+
+abbrev pub CabinetAnswers : Call → ℕ → ℕ → ℕ → ℕ → Areas → List ℕ → Type 0
+CabinetAnswers = CabinetGives answerOf
+
+abbrev pub CabinetActs : Call → ℕ → ℕ → ℕ → ℕ → Areas → List ℕ → Type 0
+CabinetActs = CabinetGives actOf
+
+-- what `cabinet_check` gives of a call: what is shown of what the check answers, and the code of what it tells (02, g)
+abbrev pub shown : Call → Shown
+shown c = shownOf (checkOf c .asked)
+
+pub record CabinetChecks (c : Call) (number sum message start count : ℕ) : Type 0 where
+  pub number-is : number ≡ shown c .number
+  pub sum-is : sum ≡ sumCode (checkOf c .sum)
+  pub message-is : message ≡ shown c .message
+  pub start-is : start ≡ shown c .start
+  pub count-is : count ≡ shown c .count
 
 abbrev pub backedOf : ℕ → ℕ → Back
 backedOf number used = record { number = number; kept = keptOf used }

@@ -7,13 +7,17 @@ use finder::Found;
 use finder::find;
 use finder::frame_in;
 use kinds::Firsts;
-use link::answer;
+use link::act;
+use link::check;
 use link::step_back;
+use messages::show;
+ghost use mathlib.Core.Path.{_≡_};
+ghost use mathlib.Core.List.{[]};
 ghost use Rattle.finder.specs.Find.{findIn};
 ghost use Rattle.axes.specs.Axes.{axesIn};
 ghost use Rattle.calls.specs.Calls.{areasOf, callOf};
 ghost use Rattle.link.specs.Contract.{StepsBack};
-ghost use Rattle.board.specs.Calls.{Receives, settingsOf, keptOf, firstsOf, CabinetAnswers, backedOf};
+ghost use Rattle.board.specs.Calls.{Receives, settingsOf, keptOf, firstsOf, CabinetAnswers, CabinetActs, CabinetChecks, backedOf};
 
 // 0 a frame, 1 nothing, 2 wait, 3 too long.
 #[no_mangle]
@@ -50,7 +54,129 @@ pub extern "C" fn cabinet_receive(
     }
 }
 
-// The refusal number, 0 where accepted.
+// A frame's settings: 0 forbids '@@', and any other value allows it.
+fn settings_by(fitted: u8, station: u8, release: u8, unchecked: u8) -> Settings
+    ensures { λ r. ⌜ r ≡ settingsOf fitted station release unchecked ⌝ }
+{
+    Settings {
+        station,
+        release,
+        unchecked: unchecked != 0,
+        fitted,
+    }
+}
+
+// The refusal number, never 1, 0 where the frame would be done; everything is read alone.
+#[no_mangle]
+pub extern "C" fn cabinet_check(
+    frame: &[u8],
+    points: &[u8],
+    columns: &[u8],
+    integers: &[u8],
+    flags: &[u8],
+    journal: &[u8],
+    used: usize,
+    axes: &[u8],
+    fitted: u8,
+    station: u8,
+    release: u8,
+    unchecked: u8,
+    first_integer: u16,
+    first_flag: u16,
+    sum: &mut u8,
+    message: &mut u16,
+    start: &mut usize,
+    count: &mut usize,
+) -> u16
+    ensures { λ r. ⌜ CabinetChecks
+        (callOf (now (frame .entry)) (axesIn (now (axes .entry))) (settingsOf fitted station release unchecked) []
+        (areasOf (now (points .entry)) (now (columns .entry)) (now (integers .entry)) (now (flags .entry)) (now (journal .entry))
+        (keptOf used) (firstsOf «first_integer» «first_flag»)))
+        r (now (sum .exit)) (now (message .exit)) (now (start .exit)) (now (count .exit)) ⌝ }
+{
+    let firsts = Firsts {
+        integer: first_integer,
+        flag: first_flag,
+    };
+    let checked = check(
+        frame,
+        points,
+        columns,
+        integers,
+        flags,
+        journal,
+        Kept { used },
+        firsts,
+        read_axes(axes),
+        settings_by(fitted, station, release, unchecked),
+    );
+    let asked = checked.asked;
+    let told = checked.sum;
+    let shown = show(asked);
+    *sum = sum_code(told);
+    *message = shown.message;
+    *start = shown.start;
+    *count = shown.count;
+    shown.number
+}
+
+// The refusal number, 0 where accepted: the check again, and what it answers done.
+#[no_mangle]
+pub extern "C" fn cabinet_act(
+    frame: &[u8],
+    points: &mut [u8],
+    columns: &mut [u8],
+    integers: &mut [u8],
+    flags: &mut [u8],
+    journal: &mut [u8],
+    used: &mut usize,
+    axes: &[u8],
+    fitted: u8,
+    station: u8,
+    release: u8,
+    unchecked: u8,
+    first_integer: u16,
+    first_flag: u16,
+    reply: &mut [u8],
+    length: &mut usize,
+    sum: &mut u8,
+) -> u16
+    ensures { λ r. ⌜ CabinetActs
+        (callOf (now (frame .entry)) (axesIn (now (axes .entry))) (settingsOf fitted station release unchecked) (now (reply .entry))
+        (areasOf (now (points .entry)) (now (columns .entry)) (now (integers .entry)) (now (flags .entry)) (now (journal .entry))
+        (keptOf (now (used .entry))) (firstsOf «first_integer» «first_flag»)))
+        r (now (length .exit)) (now (used .exit)) (now (sum .exit))
+        (areasOf (now (points .exit)) (now (columns .exit)) (now (integers .exit)) (now (flags .exit)) (now (journal .exit))
+        (keptOf (now (used .exit))) (firstsOf «first_integer» «first_flag»)) (now (reply .exit)) ⌝ }
+{
+    let settings = settings_by(fitted, station, release, unchecked);
+    let kept = Kept { used: *used };
+    let firsts = Firsts {
+        integer: first_integer,
+        flag: first_flag,
+    };
+    let answered = act(
+        frame,
+        points,
+        columns,
+        integers,
+        flags,
+        journal,
+        kept,
+        firsts,
+        read_axes(axes),
+        settings,
+        reply,
+    );
+    let after = answered.kept;
+    let told = answered.sum;
+    *used = after.used;
+    *length = answered.length;
+    *sum = sum_code(told);
+    answered.number
+}
+
+// The refusal number, 0 where accepted: check and act in one.
 #[no_mangle]
 pub extern "C" fn cabinet_answer(
     frame: &[u8],
@@ -79,36 +205,25 @@ pub extern "C" fn cabinet_answer(
         (areasOf (now (points .exit)) (now (columns .exit)) (now (integers .exit)) (now (flags .exit)) (now (journal .exit))
         (keptOf (now (used .exit))) (firstsOf «first_integer» «first_flag»)) (now (reply .exit)) ⌝ }
 {
-    let settings = Settings {
-        station,
-        release,
-        unchecked: unchecked != 0,
-        fitted,
-    };
-    let kept = Kept { used: *used };
-    let firsts = Firsts {
-        integer: first_integer,
-        flag: first_flag,
-    };
-    let answered = answer(
+    cabinet_act(
         frame,
         points,
         columns,
         integers,
         flags,
         journal,
-        kept,
-        firsts,
-        read_axes(axes),
-        settings,
+        used,
+        axes,
+        fitted,
+        station,
+        release,
+        unchecked,
+        first_integer,
+        first_flag,
         reply,
-    );
-    let after = answered.kept;
-    let told = answered.sum;
-    *used = after.used;
-    *length = answered.length;
-    *sum = sum_code(told);
-    answered.number
+        length,
+        sum,
+    )
 }
 
 // The refusal number, 0 where a write was taken back.

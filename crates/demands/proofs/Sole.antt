@@ -34,7 +34,7 @@ one-receive f c c′ s s′ l l′ d d′ x y =
 pub one-cabinet-answer : OneCabinetAnswer
 one-cabinet-answer c n n′ l l′ u u′ s s′ a a′ reply reply′ x y =
     let t = answerOf c .sum in
-    let h = one-answer c (answeredOf n l u t) (answeredOf n′ l′ u′ t) a a′ reply reply′ (x .answers) (y .answers) in
+    let h = one-answer c (answeredOf n l u t) (answeredOf n′ l′ u′ t) a a′ reply reply′ (x .gives) (y .gives) in
     (ap (λ (r : Answered). r .number) (h .0), ap (λ (r : Answered). r .length) (h .0), ap (λ (r : Answered). r .kept .used) (h .0), x .sum-is ∙ sym (y .sum-is), h .1, h .2)
 
 pub one-cabinet-back : OneCabinetBack

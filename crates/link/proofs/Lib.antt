@@ -1,4 +1,5 @@
 pub mod Answering
 pub mod Carrying
 pub mod Outcomes
+pub mod Checking
 pub mod Backing

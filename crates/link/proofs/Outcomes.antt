@@ -8,9 +8,7 @@ use lib.Dec.{eqb}
 use borrow.Author.Tests.{eqb-true}
 use lib.ListN.{length, take}
 use Rattle.digits.specs.Laid.{laid}
-use Rattle.digits.proofs.Laid.{laid-nothing}
-use Rattle.frames.specs.Frame.{contentIn, errorOf, replyOf, normal}
-use Rattle.frames.proofs.Closing.{length-reply}
+use Rattle.frames.specs.Frame.{contentIn, replyOf, normal}
 use Rattle.kinds.specs.declared.Kind.{Kind}
 use Rattle.kinds.specs.declared.Held.{Held}
 use Rattle.kinds.specs.declared.Firsts.{Firsts}
@@ -19,7 +17,6 @@ use Rattle.kinds.proofs.Known.{each-kind, kind-points, kind-columns, kind-integ
 use Rattle.journal.specs.Journal.{encodes, entriesIn, added, areaOf, puts, entryFor}
 use Rattle.messages.specs.declared.Asked.{Asked}
 use Rattle.messages.specs.declared.Asked.the-variants as asks
-use Rattle.messages.specs.declared.Asked.the-variants.{Refused}
 use Rattle.messages.specs.Asked.{numberGiven}
 use Rattle.writes.specs.Writes.{Written}
 use Rattle.calls.specs.declared.Kept.{Kept}
@@ -33,9 +30,9 @@ use Rattle.orders.specs.Contract.{kindIn, Ordered, Says, Stores}
 use Rattle.orders.proofs.Judging.{writable}
 use Rattle.orders.proofs.Handling.{content, said-same}
 use Rattle.link.specs.declared.Answered.{Answered}
-use Rattle.link.specs.Answer.{held, asked, textOf, areasAfter, unanswered, answerOf}
-use Rattle.link.specs.Contract.{Heard, accepted, Answers, Performs}
-use Rattle.link.proofs.Answering.{silent-answer, heard-answer}
+use Rattle.link.specs.Answer.{held, asked, textOf, areasAfter, answerOf}
+use Rattle.link.specs.Contract.{Heard, accepted, Gives, Answers, Performs}
+use Rattle.link.proofs.Answering.{heard-answer}
 use Rattle.link.proofs.Carrying.{Fine, fine, ordered}
 
 -- areas of equal parts
@@ -48,9 +45,10 @@ abbrev pub handingOn : Areas → Kept → Areas
 handingOn a k = areasOf (a .points) (a .columns) (a .integers) (a .flags) (a .journal) k (a .firsts)
 
 -- a result that is the outcome
-answers-by : (c : Call) (o : Outcome) (r : Answered) (areas′ : Areas) (reply′ : List ℕ) → r .kept ≡ areas′ .kept → answerOf c ≡ o → r .number ≡ o .number
-    → r .length ≡ length (o .text) → r .sum ≡ o .sum → areas′ ≡ o .areas → reply′ ≡ laid (c .sent .reply) 0 (o .text) → Answers c r areas′ reply′
-answers-by c o r areas′ reply′ k e n l s a t =
+pub gives-by : {f : Call → Outcome} (c : Call) (o : Outcome) (r : Answered) (areas′ : Areas) (reply′ : List ℕ) → r .kept ≡ areas′ .kept → f c ≡ o
+    → r .number ≡ o .number → r .length ≡ length (o .text) → r .sum ≡ o .sum → areas′ ≡ o .areas → reply′ ≡ laid (c .sent .reply) 0 (o .text)
+    → Gives f c r areas′ reply′
+gives-by c o r areas′ reply′ k e n l s a t =
     let b = a ∙ sym (ap (λ (x : Outcome). x .areas) e) in
     record {
       number-is = n ∙ sym (ap (λ (x : Outcome). x .number) e);
@@ -64,21 +62,6 @@ answers-by c o r areas′ reply′ k e n l s a t =
 -- what is asked, answered
 asked-so : (c : Call) (a : Asked) → silentOf c ≡ 0 → asked c ≡ a → answerOf c ≡ record { number = numberGiven a; text = textOf c a; areas = areasAfter c a; sum = toldOf c }
 asked-so c a s e = heard-answer c s ∙ ap (λ (x : Asked). record { number = numberGiven x; text = textOf c x; areas = areasAfter c x; sum = toldOf c }) e
-
--- a refusal without a reply
-pub answered-silent : (c : Call) (k : ℕ) (t : Told) → k ≡ silentOf c → t ≡ toldOf c → (k ≡ 0 → ⊥)
-    → Answers c (record { number = k; length = 0; kept = c .areas .kept; sum = t }) (c .areas) (c .sent .reply)
-answered-silent c k t e s n =
-    answers-by c (unanswered (toldOf c) k (c .areas)) _ (c .areas) (c .sent .reply) refl (silent-answer c k e n) refl refl s refl (sym (laid-nothing (c .sent .reply) 0))
-
--- an error reply
-pub answered-refused : (c : Call) (k : ℕ) (r : Answered) (reply′ : List ℕ) {t : Told} → silentOf c ≡ 0 → asked c ≡ Refused k
-    → t ≡ toldOf c → (r .number ≡ k) × (r .length ≡ 10) × (r .kept ≡ c .areas .kept) × (r .sum ≡ t) → reply′ ≡ laid (c .sent .reply) 0 (errorOf (c .sent .settings .station) k)
-    → Answers c r (handingOn (c .areas) (r .kept)) reply′
-answered-refused c k r reply′ s e t f g =
-    answers-by c _ r (handingOn (c .areas) (r .kept)) reply′ refl (asked-so c (Refused k) s e) (f .0) (f .1 ∙ sym (length-reply _ _ _)) (f .3 ∙ t)
-    (same-areas refl refl refl refl refl (ap (λ (x : Kept). x .used) (f .2)))
-    g
 
 -- areas with another area of a kind, by its tag
 abbrev pub replacing : ℕ → List ℕ → Areas → List ℕ → Kept → Areas
@@ -156,7 +139,7 @@ module _ {c : Call} {o : Order} (e : Heard c o) (tag : ℕ) (whole : replacing t
 
     pub performed : Performs c r (replacing tag area′ (c .areas) journal′ (r .kept)) reply′
     performed =
-        answers-by c _ (accepted r (toldOf c)) (replacing tag area′ (c .areas) journal′ (r .kept)) reply′ refl
+        gives-by c _ (accepted r (toldOf c)) (replacing tag area′ (c .areas) journal′ (r .kept)) reply′ refl
         (asked-so c (asks.Order (o .message) (o .start) (o .count)) (e .silent-0) (e .order))
         refl
         (p .length-is ∙ ap (λ (x : List ℕ). length (replyOf normal (c .sent .settings .station) x)) said)

@@ -1,4 +1,4 @@
-// The link: every frame answered, and the step back (document 01 whole, and document 02, requests a, c, f and l).
+// The link: every frame answered, at once or by a look before, and the step back (document 01 whole, and document 02, requests a, c, f, g and l).
 use axes::Axes;
 use calls::Kept;
 use calls::Settings;
@@ -20,21 +20,28 @@ use orders::carry_out;
 use refusals::back_refusal;
 use refusals::silent;
 ghost use mathlib.Core.Path.{_≡_};
+ghost use mathlib.Core.List.{[]};
 ghost use Prim.Native.Nat.{_≤_};
 ghost use lib.ListN.{length};
 ghost use Rattle.digits.specs.Laid.{laid};
-ghost use Rattle.frames.specs.Frame.{errorOf};
 ghost use Rattle.kinds.specs.Kinds.{Sound, pointsOf, columnsOf, integersOf, flagsOf, sizeOf};
 ghost use Rattle.journal.specs.Journal.{puts, entryFor};
 ghost use Rattle.journal.specs.Laws.{Good};
 ghost use Rattle.calls.specs.Calls.{areasOf, callOf};
-ghost use Rattle.link.specs.Contract.{Heard, accepted, Answers, Performs, StepsBack};
+ghost use Rattle.link.specs.Check.{checkOf, refusedText};
+ghost use Rattle.link.specs.Contract.{Heard, accepted, Answers, Acts, Performs, StepsBack};
 
 // The answer to a frame: its number, the reply's length, what is handed on, what is told of the sum.
 pub struct Answered {
     pub number: u16,
     pub length: usize,
     pub kept: Kept,
+    pub sum: Told,
+}
+
+// What a check answers: the refusal, or what would be done; what is told of the sum.
+pub struct Checked {
+    pub asked: Asked,
     pub sum: Told,
 }
 
@@ -57,13 +64,16 @@ fn accept(done: Done, sum: Told) -> Answered
     }
 }
 
-// The ten bytes of an error reply.
+// A refusal: from 101 on with the ten bytes of an error reply.
 fn refuse(reply: &mut [u8], station: u8, number: u16, kept: Kept, sum: Told) -> Answered
     requires { ⌜ 10 ≤ length (now reply) ⌝ }
-    ensures { λ r. ⌜ (r .number ≡ number) × (r .length ≡ 10) × (r .kept ≡ kept) × (r .sum ≡ sum) ⌝ }
-    ensures { λ _. ⌜ now (reply .exit) ≡ laid (now (reply .entry)) 0 (errorOf station number) ⌝ }
+    ensures { λ r. ⌜ (r .number ≡ number) × (r .length ≡ length (refusedText station number)) × (r .kept ≡ kept) × (r .sum ≡ sum) ⌝ }
+    ensures { λ _. ⌜ now (reply .exit) ≡ laid (now (reply .entry)) 0 (refusedText station number) ⌝ }
 {
-    let length = error_reply(reply, station, number);
+    let mut length = 0;
+    if number > 100 {
+        length = error_reply(reply, station, number);
+    }
     Answered {
         number,
         length,
@@ -107,8 +117,48 @@ fn perform(
     carry_out(order, frame, flags, journal, kept, axes, settings, reply)
 }
 
-// The answer to a frame: any bytes, any areas, any lengths.
-pub fn answer(
+// The first half of an answer: the refusal, never 1, or what would be done. Everything is read alone, and there is no reply area.
+pub fn check(
+    frame: &[u8],
+    points: &[u8],
+    columns: &[u8],
+    integers: &[u8],
+    flags: &[u8],
+    journal: &[u8],
+    kept: Kept,
+    firsts: Firsts,
+    axes: Axes,
+    settings: Settings,
+) -> Checked
+    ensures { λ r. ⌜ r ≡ checkOf
+        (callOf (now (frame .entry)) axes settings []
+        (areasOf (now (points .entry)) (now (columns .entry)) (now (integers .entry)) (now (flags .entry)) (now (journal .entry)) kept firsts)) ⌝ }
+{
+    let lengths = Lengths {
+        points: points.len(),
+        columns: columns.len(),
+        integers: integers.len(),
+        flags: flags.len(),
+        firsts,
+    };
+    let hearing = silent(frame, axes, settings, lengths, journal, kept);
+    let number = hearing.number;
+    let sum = hearing.sum;
+    if number != 0 {
+        return Checked {
+            asked: Asked::Refused { number },
+            sum,
+        };
+    }
+    let held = held_in(lengths);
+    Checked {
+        asked: judge(frame, held, settings.fitted, settings.release),
+        sum,
+    }
+}
+
+// The second half: checks again, by the same rules, and does it, with the reply.
+pub fn act(
     frame: &[u8],
     points: &mut [u8],
     columns: &mut [u8],
@@ -121,33 +171,35 @@ pub fn answer(
     settings: Settings,
     reply: &mut [u8],
 ) -> Answered
-    ensures { λ r. ⌜ Answers
+    ensures { λ r. ⌜ Acts
         (callOf (now (frame .entry)) axes settings (now (reply .entry))
         (areasOf (now (points .entry)) (now (columns .entry)) (now (integers .entry)) (now (flags .entry)) (now (journal .entry)) kept firsts))
         r (areasOf (now (points .exit)) (now (columns .exit)) (now (integers .exit)) (now (flags .exit)) (now (journal .exit)) (r .kept) firsts) (now (reply .exit)) ⌝ }
 {
-    let lengths = Lengths {
-        points: points.len(),
-        columns: columns.len(),
-        integers: integers.len(),
-        flags: flags.len(),
-        firsts,
-    };
-    let hearing = silent(reply.len(), frame, axes, settings, lengths, journal, kept);
-    let number = hearing.number;
-    let sum = hearing.sum;
-    if number != 0 {
+    if reply.len() < 1024 {
         return Answered {
-            number,
+            number: 1,
             length: 0,
             kept,
-            sum,
+            sum: Told::Untested,
         };
     }
-    let held = held_in(lengths);
-    let asked = judge(frame, held, settings.fitted, settings.release);
+    let checked = check(
+        frame,
+        points,
+        columns,
+        integers,
+        flags,
+        journal,
+        kept,
+        firsts,
+        axes,
+        settings,
+    );
+    let asked = checked.asked;
+    let sum = checked.sum;
     match asked {
-        Asked::Refused { number: given } => refuse(reply, settings.station, given, kept, sum),
+        Asked::Refused { number } => refuse(reply, settings.station, number, kept, sum),
         Asked::Order {
             message,
             start,
@@ -157,7 +209,13 @@ pub fn answer(
                 message,
                 start,
                 count,
-                held,
+                held: held_in(Lengths {
+                    points: points.len(),
+                    columns: columns.len(),
+                    integers: integers.len(),
+                    flags: flags.len(),
+                    firsts,
+                }),
             };
             let done = perform(
                 order,
@@ -176,6 +234,40 @@ pub fn answer(
             accept(done, sum)
         }
     }
+}
+
+// The answer to a frame, check and act in one: any bytes, any areas, any lengths.
+pub fn answer(
+    frame: &[u8],
+    points: &mut [u8],
+    columns: &mut [u8],
+    integers: &mut [u8],
+    flags: &mut [u8],
+    journal: &mut [u8],
+    kept: Kept,
+    firsts: Firsts,
+    axes: Axes,
+    settings: Settings,
+    reply: &mut [u8],
+) -> Answered
+    ensures { λ r. ⌜ Answers
+        (callOf (now (frame .entry)) axes settings (now (reply .entry))
+        (areasOf (now (points .entry)) (now (columns .entry)) (now (integers .entry)) (now (flags .entry)) (now (journal .entry)) kept firsts))
+        r (areasOf (now (points .exit)) (now (columns .exit)) (now (integers .exit)) (now (flags .exit)) (now (journal .exit)) (r .kept) firsts) (now (reply .exit)) ⌝ }
+{
+    act(
+        frame,
+        points,
+        columns,
+        integers,
+        flags,
+        journal,
+        kept,
+        firsts,
+        axes,
+        settings,
+        reply,
+    )
 }
 
 // An entry's bytes put back into the area of its kind.

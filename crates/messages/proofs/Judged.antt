@@ -113,6 +113,29 @@ refused-some held fitted release frame = go (messageOf release frame)
     go Unknown e = unknown-some held fitted release (contentIn frame) e
     go (Known m) e = known m (picked held fitted release m (contentIn frame)) (eqb (picked held fitted release m (contentIn frame)) 0) refl (sym (judged-known held fitted release m (contentIn frame)) ∙ e)
 
+picked-from : (p q r s t u v : Bool) → (pick p q r s t u v ≡ 0 → ⊥) → 101 ≤ pick p q r s t u v
+picked-from true q r s t u v n = omega arith
+picked-from false true r s t u v n = omega arith
+picked-from false false true s t u v n = omega arith
+picked-from false false false true t u v n = omega arith
+picked-from false false false false true u v n = omega arith
+picked-from false false false false false true v n = omega arith
+picked-from false false false false false false true n = omega arith
+picked-from false false false false false false false n = absurd (n refl)
+
+-- and each is from 101 on: it has an error reply
+pub refused-from : (held : Held) (fitted release : ℕ) (frame : List ℕ) (k : ℕ) → askedOf held fitted release frame ≡ Refused k → 101 ≤ k
+unfolding askedOf askedRows
+refused-from held fitted release frame k e =
+    let g = sym (number-judged held fitted release (messageOf release frame) (contentIn frame)) ∙ ap numberGiven e in
+    subst (λ (n : ℕ). 101 ≤ n) g (go (messageOf release frame) (λ z. refused-some held fitted release frame (e ∙ ap Refused (sym g ∙ z))))
+  where
+    go : (n : Named) → (firstOf (askedRows held fitted release n (contentIn frame)) ≡ 0 → ⊥) → 101 ≤ firstOf (askedRows held fitted release n (contentIn frame))
+    go Unknown z = omega arith
+    go (Known m) z =
+        let s = contentIn frame in
+        picked-from (notDigits release m s) (wrongLength held m s) (wrongProgram m s) (countZero m s) (notHeld held m s) (wrongPattern fitted m s) (wrongType m s) z
+
 -- what an order tells of the message and the content
 pub record Told (held : Held) (fitted release : ℕ) (n : Named) (content : List ℕ) (m : Message) (start count : ℕ) : Type 0 where
   pub message : n ≡ Known m

@@ -1,3 +1,4 @@
 pub mod Rows
 pub mod Asked
+pub mod Shown
 pub mod Laws

@@ -1,4 +1,5 @@
-// What a frame asks, 101 to 108 in the order tested: a read-only judgement (document 01, "Each message" and "Refusal numbers"; document 02, a and l).
+// What a frame asks, 101 to 108 in the order tested: a read-only judgement, and what of it is shown (document 01, "Each message" and "Refusal numbers";
+// document 02, a, g and l).
 use contents::content;
 use contents::is_long;
 use contents::is_unfit;
@@ -20,6 +21,7 @@ ghost use Rattle.kinds.specs.Kinds.{Sound, holds};
 ghost use Rattle.table.specs.declared.Named.the-variants.{Known};
 ghost use Rattle.table.specs.Table.{messageOf, anyBytes, Narrow};
 ghost use Rattle.messages.specs.Asked.{notDigits, judged, askedOf};
+ghost use Rattle.messages.specs.Shown.{shownOf};
 
 // What a frame asks: a refusal, 101 to 108, or a message's order with its start number and count.
 pub enum Asked {
@@ -31,6 +33,14 @@ pub enum Asked {
         start: usize,
         count: usize,
     },
+}
+
+// What is shown of it: the refusal's number; or 0, the message's ID, and start and count where it names a run.
+pub struct Shown {
+    pub number: u16,
+    pub message: u16,
+    pub start: usize,
+    pub count: usize,
 }
 
 // The message of a frame, its ID in the digits that a release admits.
@@ -142,5 +152,40 @@ pub fn judge(frame: &[u8], held: Held, fitted: u8, release: u8) -> Asked
     match named {
         Named::Unknown => Asked::Refused { number: 101 },
         Named::Known { message } => judge_content(message, rest, held, fitted, release),
+    }
+}
+
+// A refusal shows no message, and a message that names no run neither start nor count: 0.
+pub fn show(asked: Asked) -> Shown
+    ensures { λ r. ⌜ r ≡ shownOf asked ⌝ }
+{
+    match asked {
+        Asked::Refused { number } => Shown {
+            number,
+            message: 0,
+            start: 0,
+            count: 0,
+        },
+        Asked::Order {
+            message,
+            start,
+            count,
+        } => {
+            let id = message.id;
+            if message.start < 1 {
+                return Shown {
+                    number: 0,
+                    message: id,
+                    start: 0,
+                    count: 0,
+                };
+            }
+            Shown {
+                number: 0,
+                message: id,
+                start,
+                count,
+            }
+        }
     }
 }

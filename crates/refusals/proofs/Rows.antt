@@ -22,7 +22,7 @@ use Rattle.kinds.specs.declared.Lengths.{Lengths}
 use Rattle.kinds.specs.Kinds.{heldIn}
 use Rattle.calls.specs.Calls.{Call, lengthsOf}
 use Rattle.refusals.proofs.Tested.{shaped-long}
-use Rattle.refusals.specs.Refusals.{pointsFit, variablesFit, journalFits, axesFit, releaseFits, areaRows, earlyRows, lateRows, silentOf, early, toldAfter, toldOf, refusalOf, backRows}
+use Rattle.refusals.specs.Refusals.{pointsFit, variablesFit, journalFits, axesFit, releaseFits, areaRows, checkRows, earlyRows, lateRows, silentOf, early, toldAfter, toldOf, refusalOf, backRows}
 
 -- the areas' four, in the order tested, and what comes behind them
 abbrev pub four : Bool → Bool → Bool → Bool → ℕ → ℕ
@@ -133,12 +133,8 @@ module _ (reply : ℕ) (frame : List ℕ) (axes : Axes) (settings : Settings) (l
   silentNumber k = earlyNumber (lateNumber settings frame k)
 
   pub early-rows : firstOf (earlyRows reply frame axes settings lengths journal kept) ≡ earlyNumber 0
-  unfolding earlyRows areaRows
+  unfolding earlyRows checkRows areaRows
   early-rows = refl
-
-  pub silent-rows : firstOf (earlyRows reply frame axes settings lengths journal kept ++ lateRows settings frame) ≡ silentNumber 0
-  unfolding earlyRows areaRows lateRows
-  silent-rows = refl
 
   -- nothing before the sum refuses
   pub record EarlyPassed : Type 0 where
@@ -212,6 +208,17 @@ module _ (reply : ℕ) (frame : List ℕ) (axes : Axes) (settings : Settings) (l
   pub silent-given : (k : ℕ) → (silentNumber 0 ≡ 0 → ⊥) → (silentNumber k ≡ silentNumber 0) × (silentNumber 0 < 101)
   silent-given k h = gate-given (gates early-gate (late-gate settings frame)) k h
 
+-- a check's rows are those of a reply area that is long enough
+module _ (frame : List ℕ) (axes : Axes) (settings : Settings) (lengths : Lengths) (journal : List ℕ) (kept : Kept) where
+  pub check-rows : firstOf (checkRows frame axes settings lengths journal kept) ≡ earlyNumber 1024 frame axes settings lengths journal kept 0
+  unfolding checkRows areaRows
+  check-rows = refl
+
+  pub checked-rows : firstOf (checkRows frame axes settings lengths journal kept ++ lateRows settings frame)
+      ≡ silentNumber 1024 frame axes settings lengths journal kept 0
+  unfolding checkRows areaRows lateRows
+  checked-rows = refl
+
 -- a call's rows
 abbrev pub numberOf : Call → ℕ → ℕ
 numberOf c = silentNumber (length (c .sent .reply)) (c .sent .frame) (c .sent .axes) (c .sent .settings) (lengthsOf (c .areas)) (c .areas .journal) (c .areas .kept)
@@ -220,12 +227,12 @@ abbrev pub CallPassed : Call → Type 0
 CallPassed c = Passed (length (c .sent .reply)) (c .sent .frame) (c .sent .axes) (c .sent .settings) (lengthsOf (c .areas)) (c .areas .journal) (c .areas .kept)
 
 pub silent-is : (c : Call) → silentOf c ≡ numberOf c 0
-unfolding silentOf earlyRows areaRows lateRows
+unfolding silentOf earlyRows checkRows areaRows lateRows
 silent-is c = refl
 
 pub refusal-is : (c : Call)
     → refusalOf c ≡ numberOf c (firstOf (askedRows (heldIn (lengthsOf (c .areas))) (c .sent .settings .fitted) (c .sent .settings .release) (messageOf (c .sent .settings .release) (c .sent .frame)) (contentIn (c .sent .frame))))
-unfolding refusalOf earlyRows areaRows lateRows
+unfolding refusalOf earlyRows checkRows areaRows lateRows
 refusal-is c = refl
 
 pub call-passed : (c : Call) → silentOf c ≡ 0 → CallPassed c
@@ -268,50 +275,45 @@ module _ (l : Lengths) (j : List ℕ) (kept : Kept) where
   back-0 e u = sym (back-rows l j kept ∙ area-past e (cond (eqb (kept .used) 0) 9 0) ∙ rw (ne-eqb _ _ u))
 
   -- each return of a frame's tests
-  module _ (reply : ℕ) (frame : List ℕ) (axes : Axes) (settings : Settings) where
-    pub early-1 : reply < 1024 → 1 ≡ firstOf (earlyRows reply frame axes settings l j kept)
-    early-1 h = sym (early-rows reply frame axes settings l j kept ∙ rw (lt-ltb _ _ h))
+  module _ (frame : List ℕ) (axes : Axes) (settings : Settings) where
+    behind : (k : ℕ) → areaNumber l j kept (ownNumber axes settings frame 0) ≡ k → k ≡ firstOf (checkRows frame axes settings l j kept)
+    behind k e = sym (check-rows frame axes settings l j kept ∙ e)
 
-    module _ (h : 1024 ≤ reply) where
-      behind : (k : ℕ) → areaNumber l j kept (ownNumber axes settings frame 0) ≡ k → k ≡ firstOf (earlyRows reply frame axes settings l j kept)
-      behind k e = sym (early-rows reply frame axes settings l j kept ∙ rw (le-ltb _ _ h) e)
+    pub early-area : {n : ℕ} → n ≡ firstOf (areaRows l j kept) → (n ≡ 0 → ⊥) → n ≡ firstOf (checkRows frame axes settings l j kept)
+    early-area {n} e f = behind n (sym (e ∙ area-given l j kept _ (λ z. f (e ∙ z))))
 
-      pub early-area : {n : ℕ} → n ≡ firstOf (areaRows l j kept) → (n ≡ 0 → ⊥) → n ≡ firstOf (earlyRows reply frame axes settings l j kept)
-      early-area {n} e f = behind n (sym (e ∙ area-given l j kept _ (λ z. f (e ∙ z))))
+    module _ (e : firstOf (areaRows l j kept) ≡ 0) where
+      pub early-5 : axesFit axes (settings .fitted) ≡ false → 5 ≡ firstOf (checkRows frame axes settings l j kept)
+      early-5 f = behind 5 (area-past e _ ∙ rw f)
 
-      module _ (e : firstOf (areaRows l j kept) ≡ 0) where
-        pub early-5 : axesFit axes (settings .fitted) ≡ false → 5 ≡ firstOf (earlyRows reply frame axes settings l j kept)
-        early-5 f = behind 5 (area-past e _ ∙ rw f)
+      module _ (f : axesFit axes (settings .fitted) ≡ true) where
+        pub early-13 : releaseFits (settings .release) ≡ false → 13 ≡ firstOf (checkRows frame axes settings l j kept)
+        early-13 r = behind 13 (area-past e _ ∙ rw (f, r))
 
-        module _ (f : axesFit axes (settings .fitted) ≡ true) where
-          pub early-13 : releaseFits (settings .release) ≡ false → 13 ≡ firstOf (earlyRows reply frame axes settings l j kept)
-          early-13 r = behind 13 (area-past e _ ∙ rw (f, r))
+        module _ (r : releaseFits (settings .release) ≡ true) where
+          pub early-6 : shaped frame ≡ false → 6 ≡ firstOf (checkRows frame axes settings l j kept)
+          early-6 s = behind 6 (area-past e _ ∙ rw (f, r, s))
 
-          module _ (r : releaseFits (settings .release) ≡ true) where
-            pub early-6 : shaped frame ≡ false → 6 ≡ firstOf (earlyRows reply frame axes settings l j kept)
-            early-6 s = behind 6 (area-past e _ ∙ rw (f, r, s))
-
-            pub early-0 : shaped frame ≡ true → 0 ≡ firstOf (earlyRows reply frame axes settings l j kept)
-            early-0 s = behind 0 (area-past e _ ∙ rw (f, r, s))
+          pub early-0 : shaped frame ≡ true → 0 ≡ firstOf (checkRows frame axes settings l j kept)
+          early-0 s = behind 0 (area-past e _ ∙ rw (f, r, s))
 
     -- behind them stand the sum and the station
-    pub silent-early : {n : ℕ} → n ≡ firstOf (earlyRows reply frame axes settings l j kept) → (n ≡ 0 → ⊥)
-        → n ≡ firstOf (earlyRows reply frame axes settings l j kept ++ lateRows settings frame)
+    pub silent-early : {n : ℕ} → n ≡ firstOf (checkRows frame axes settings l j kept) → (n ≡ 0 → ⊥)
+        → n ≡ firstOf (checkRows frame axes settings l j kept ++ lateRows settings frame)
     silent-early e f =
-        e
-        ∙ early-rows reply frame axes settings l j kept
-        ∙ sym (silent-rows reply frame axes settings l j kept ∙ early-given reply frame axes settings l j kept _ (λ z. f (e ∙ early-rows reply frame axes settings l j kept ∙ z)) .0)
+        let q = e ∙ check-rows frame axes settings l j kept in
+        q ∙ sym (checked-rows frame axes settings l j kept ∙ early-given 1024 frame axes settings l j kept _ (λ z. f (q ∙ z)) .0)
 
-    module _ (e : firstOf (earlyRows reply frame axes settings l j kept) ≡ 0) where
-      none-early : EarlyPassed reply frame axes settings l j kept
-      none-early = early-passed reply frame axes settings l j kept (sym (early-rows reply frame axes settings l j kept) ∙ e) .0
+    module _ (e : firstOf (checkRows frame axes settings l j kept) ≡ 0) where
+      none-early : EarlyPassed 1024 frame axes settings l j kept
+      none-early = early-passed 1024 frame axes settings l j kept (sym (check-rows frame axes settings l j kept) ∙ e) .0
 
       pub silent-long : 10 ≤ length frame
       silent-long = shaped-long frame (none-early .shape)
 
-      pub silent-late : {n : ℕ} → n ≡ firstOf (lateRows settings frame) → n ≡ firstOf (earlyRows reply frame axes settings l j kept ++ lateRows settings frame)
+      pub silent-late : {n : ℕ} → n ≡ firstOf (lateRows settings frame) → n ≡ firstOf (checkRows frame axes settings l j kept ++ lateRows settings frame)
       silent-late g =
-          g ∙ late-rows settings frame ∙ sym (silent-rows reply frame axes settings l j kept ∙ past-early reply frame axes settings l j kept none-early _)
+          g ∙ late-rows settings frame ∙ sym (checked-rows frame axes settings l j kept ∙ past-early 1024 frame axes settings l j kept none-early _)
 
 -- the tests of the sum and the station, by what the sum test said
 module _ (settings : Settings) (frame : List ℕ) where

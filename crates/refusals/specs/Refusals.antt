@@ -1,4 +1,4 @@
--- Document 01, "Refusal numbers, in the order tested", and document 02, requests a, c, f and l: 1 to 10, 12 and 13 here, 101 to 108 by
+-- Document 01, "Refusal numbers, in the order tested", and document 02, requests a, c, f, g and l: 1 to 10, 12 and 13 here, 101 to 108 by
 -- `askedRows` of messages. Nothing else decides a number.
 use Prim.Native.Nat.{ℕ, _+_, _*_, _%_}
 use mathlib.Core.Bool.{Bool, true, cond, not, _&&_, _||_}
@@ -63,16 +63,22 @@ areaRows lengths journal kept =
     ∷ (4 when (not (journalFits (heldIn lengths) journal (kept .used))))
     ∷ []
 
--- 1 to 6, 10 and 13 ("tested after 5", 02, l): what is tested before the sum, with a reply area of so many bytes; "6 also covers a 200H frame of another
--- length" (02, c)
-unfoldable pub earlyRows : ℕ → List ℕ → Axes → Settings → Lengths → List ℕ → Kept → List Row
-earlyRows reply frame axes settings lengths journal kept =
-    (1 when (ltb reply 1024))
-    ∷ (areaRows lengths journal kept
+-- 2 to 6, 10 and 13 ("tested after 5", 02, l): what is tested before the sum, also by a check, which "never gives 1, as it writes no reply" (02, g); "6
+-- also covers a 200H frame of another length" (02, c)
+unfoldable pub checkRows : List ℕ → Axes → Settings → Lengths → List ℕ → Kept → List Row
+checkRows frame axes settings lengths journal kept =
+    areaRows lengths journal kept
     ++ ((5 when (not (axesFit axes (settings .fitted))))
     ∷ (13 when (not (releaseFits (settings .release))))
     ∷ (6 when (not (shaped frame)))
-    ∷ []))
+    ∷ [])
+
+-- and 1 before them, "reply area under 1,024", with one of so many bytes
+abbrev pub tooShort : ℕ → Bool
+tooShort reply = ltb reply 1024
+
+unfoldable pub earlyRows : ℕ → List ℕ → Axes → Settings → Lengths → List ℕ → Kept → List Row
+earlyRows reply frame axes settings lengths journal kept = (1 when (tooShort reply)) ∷ checkRows frame axes settings lengths journal kept
 
 -- 12 ("for '@@' where forbidden, in 7's place in the order", 02, f), 7 and 8: the sum and the station
 unfoldable pub lateRows : Settings → List ℕ → List Row
@@ -100,6 +106,16 @@ toldAfter earlier release frame = cond (eqb earlier 0) (Said (sumSaid release fr
 
 abbrev pub toldOf : Call → Told
 toldOf c = toldAfter (firstOf (early c)) (c .sent .settings .release) (c .sent .frame)
+
+-- the same of a check, whatever the reply area: what it tests before the sum, its refusal without a reply, and what it tells of the sum (02, g)
+abbrev pub checkEarly : Call → List Row
+checkEarly c = checkRows (c .sent .frame) (c .sent .axes) (c .sent .settings) (lengthsOf (c .areas)) (c .areas .journal) (c .areas .kept)
+
+unfoldable pub checkSilentOf : Call → ℕ
+checkSilentOf c = firstOf (checkEarly c ++ lateRows (c .sent .settings) (c .sent .frame))
+
+abbrev pub checkToldOf : Call → Told
+checkToldOf c = toldAfter (firstOf (checkEarly c)) (c .sent .settings .release) (c .sent .frame)
 
 -- a frame's refusal: 1 to 8, 10, 12 and 13, then 101 to 108
 unfoldable pub refusalOf : Call → ℕ

@@ -1,5 +1,5 @@
 // The tests behind the refusals without a reply, and the step back's (document 01, "Refusal numbers, in the order tested"; document 02, a: 10; f: 12;
-// l: 13).
+// l: 13; g: a check tests them too).
 use axes::Axes;
 use axes::AxisRecord;
 use calls::Kept;
@@ -22,7 +22,7 @@ ghost use lib.ListN.{length};
 ghost use Rattle.frames.specs.Frame.{sumSaid};
 ghost use Rattle.kinds.specs.Kinds.{Sound};
 ghost use Rattle.messages.specs.Rows.{firstOf};
-ghost use Rattle.refusals.specs.Refusals.{pointsFit, variablesFit, journalFits, recordsFit, axesFit, releaseFits, areaRows, earlyRows, lateRows, toldAfter, backRows};
+ghost use Rattle.refusals.specs.Refusals.{pointsFit, variablesFit, journalFits, recordsFit, axesFit, releaseFits, areaRows, checkRows, lateRows, toldAfter, backRows};
 
 // What a frame's tests before its message say: the refusal without a reply, or 0, and what is told of the sum.
 pub struct Hearing {
@@ -157,9 +157,8 @@ fn late_refusal(sum: Sum, settings: Settings, frame: &[u8]) -> u16
     0
 }
 
-// Tests 1 to 6, 10 and 13: the refusal, or 0, with a reply area of so many bytes.
+// Tests 2 to 6, 10 and 13: the refusal, or 0.
 fn early_refusal(
-    reply: usize,
     frame: &[u8],
     axes: Axes,
     settings: Settings,
@@ -167,11 +166,8 @@ fn early_refusal(
     journal: &[u8],
     kept: Kept,
 ) -> u16
-    ensures { λ r. ⌜ r ≡ firstOf (earlyRows reply (now (frame .entry)) axes settings lengths (now (journal .entry)) kept) ⌝ }
+    ensures { λ r. ⌜ r ≡ firstOf (checkRows (now (frame .entry)) axes settings lengths (now (journal .entry)) kept) ⌝ }
 {
-    if reply < 1024 {
-        return 1;
-    }
     let number = area_refusal(lengths, journal, kept);
     if number != 0 {
         return number;
@@ -188,9 +184,8 @@ fn early_refusal(
     0
 }
 
-// The refusal without a reply, 1 to 8, 10, 12 or 13, or 0, and what is told of the sum.
+// The refusal without a reply, 2 to 8, 10, 12 or 13, or 0, and what is told of the sum; 1 is tested where there is a reply area, before all this.
 pub fn silent(
-    reply: usize,
     frame: &[u8],
     axes: Axes,
     settings: Settings,
@@ -199,11 +194,11 @@ pub fn silent(
     kept: Kept,
 ) -> Hearing
     ensures { λ r. ⌜ r .number
-        ≡ firstOf (earlyRows reply (now (frame .entry)) axes settings lengths (now (journal .entry)) kept ++ lateRows settings (now (frame .entry))) ⌝ }
+        ≡ firstOf (checkRows (now (frame .entry)) axes settings lengths (now (journal .entry)) kept ++ lateRows settings (now (frame .entry))) ⌝ }
     ensures { λ r. ⌜ r .sum
-        ≡ toldAfter (firstOf (earlyRows reply (now (frame .entry)) axes settings lengths (now (journal .entry)) kept)) (settings .release) (now (frame .entry)) ⌝ }
+        ≡ toldAfter (firstOf (checkRows (now (frame .entry)) axes settings lengths (now (journal .entry)) kept)) (settings .release) (now (frame .entry)) ⌝ }
 {
-    let number = early_refusal(reply, frame, axes, settings, lengths, journal, kept);
+    let number = early_refusal(frame, axes, settings, lengths, journal, kept);
     if number != 0 {
         return Hearing {
             number,

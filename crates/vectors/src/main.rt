@@ -14,8 +14,12 @@ use libc::STDIN_FILENO;
 use libc::STDOUT_FILENO;
 use link::Answered;
 use link::Back;
+use link::Checked;
+use link::act;
 use link::answer;
+use link::check;
 use link::step_back;
+use messages::show;
 ghost use Prim.Native.Nat.{_+_, _≤_, _<_};
 ghost use lib.ListN.{length};
 
@@ -173,7 +177,7 @@ fn answer_run(
     )
 }
 
-// The records go as a lent run where there are eight of them.
+// A frame acted on, or answered; then the records go as a lent run where there are eight of them.
 fn answer_frame(
     frame: &[u8],
     points: &mut [u8],
@@ -183,10 +187,26 @@ fn answer_frame(
     journal: &mut [u8],
     axes: &[u8],
     board: Board,
+    acts: bool,
     reply: &mut [u8],
 ) -> Answered {
     let kept = Kept { used: board.used };
     let read = read_axes(axes);
+    if acts {
+        return act(
+            frame,
+            points,
+            columns,
+            integers,
+            flags,
+            journal,
+            kept,
+            board.firsts,
+            read,
+            board.settings,
+            reply,
+        );
+    }
     if read.eight {
         let records = read.records;
         return answer_run(
@@ -218,11 +238,15 @@ fn answer_frame(
     )
 }
 
-// The numbers of an answer; the used length.
-fn say_answered(answered: Answered) -> usize {
+// The numbers of an answer or an act; the used length.
+fn say_answered(answered: Answered, acts: bool) -> usize {
     let after = answered.kept;
     let told = answered.sum;
-    say(b"F");
+    if acts {
+        say(b"A");
+    } else {
+        say(b"F");
+    }
     say_number(answered.number as usize);
     say_number(answered.length);
     say_number(after.used);
@@ -239,7 +263,49 @@ fn say_back(back: Back) -> usize {
     after.used
 }
 
-// One frame answered; the used length.
+// What is shown of a check.
+fn say_checked(checked: Checked) {
+    let asked = checked.asked;
+    let told = checked.sum;
+    let shown = show(asked);
+    say(b"C");
+    say_number(shown.number as usize);
+    say_number(shown.message as usize);
+    say_number(shown.start);
+    say_number(shown.count);
+    say_number(sum_code(told) as usize);
+}
+
+// One frame checked.
+fn play_check(
+    frame: &[u8],
+    points: &[u8],
+    columns: &[u8],
+    integers: &[u8],
+    flags: &[u8],
+    journal: &[u8],
+    axes: &[u8],
+    board: Board,
+) {
+    let kept = Kept { used: board.used };
+    let checked = check(
+        frame,
+        points,
+        columns,
+        integers,
+        flags,
+        journal,
+        kept,
+        board.firsts,
+        read_axes(axes),
+        board.settings,
+    );
+    say_checked(checked);
+    say_areas(points, columns, integers, flags, journal);
+    say(b"\n");
+}
+
+// One frame answered, or acted on; the used length.
 fn play_frame(
     frame: &[u8],
     points: &mut [u8],
@@ -250,6 +316,7 @@ fn play_frame(
     reply: &mut [u8],
     axes: &[u8],
     board: Board,
+    acts: bool,
 ) -> usize {
     let answered = answer_frame(
         frame,
@@ -260,9 +327,10 @@ fn play_frame(
         &mut *journal,
         axes,
         board,
+        acts,
         &mut *reply,
     );
-    let left = say_answered(answered);
+    let left = say_answered(answered, acts);
     say_areas(&*points, &*columns, &*integers, &*flags, &*journal);
     say_digest(&*reply);
     say(b"\n");
@@ -404,7 +472,37 @@ fn settle(rest: &[u8], board: Board) -> Board {
     b
 }
 
-// 'F': a frame, on what is lent; the used length.
+// 'C': a check, on what is lent.
+fn check_on(
+    rest: &[u8],
+    points: &[u8],
+    columns: &[u8],
+    integers: &[u8],
+    flags: &[u8],
+    journal: &[u8],
+    axes: &[u8],
+    board: Board,
+) {
+    let from = within(3, rest);
+    let p = within(board.points, points);
+    let c = within(board.columns, columns);
+    let i = within(board.integers, integers);
+    let g = within(board.flags, flags);
+    let j = within(board.journal, journal);
+    let a = within(board.axes, axes);
+    play_check(
+        &rest[from..],
+        &points[..p],
+        &columns[..c],
+        &integers[..i],
+        &flags[..g],
+        &journal[..j],
+        &axes[..a],
+        board,
+    );
+}
+
+// 'F' and 'A': a frame, on what is lent; the used length.
 fn frame_on(
     rest: &[u8],
     points: &mut [u8],
@@ -415,6 +513,7 @@ fn frame_on(
     reply: &mut [u8],
     axes: &[u8],
     board: Board,
+    acts: bool,
 ) -> usize {
     let from = within(3, rest);
     let p = within(board.points, points);
@@ -434,6 +533,7 @@ fn frame_on(
         &mut reply[..r],
         &axes[..a],
         board,
+        acts,
     )
 }
 
@@ -475,7 +575,11 @@ fn play(
 ) -> Board {
     let op = byte_at(rest, 0);
     let mut b = board;
-    if op == 0x46 {
+    if op == 0x43 {
+        check_on(rest, points, columns, integers, flags, journal, axes, board);
+        return b;
+    }
+    if op == 0x46 || op == 0x41 {
         b.used = frame_on(
             rest,
             points,
@@ -486,6 +590,7 @@ fn play(
             reply,
             &*axes,
             board,
+            op == 0x41,
         );
         return b;
     }
@@ -517,7 +622,7 @@ fn size(rest: &[u8]) -> usize {
     if op == 0x53 {
         return 1;
     }
-    if op == 0x46 || op == 0x52 {
+    if op == 0x46 || op == 0x52 || op == 0x43 || op == 0x41 {
         return 3 + two(rest, 1);
     }
     0
@@ -569,7 +674,7 @@ fn play_all(
 }
 
 fn main() {
-    let mut operations = [0u8; 131072];
+    let mut operations = [0u8; 163840];
     let mut points = [0u8; 60000];
     let mut columns = [0u8; 720];
     let mut integers = [0u8; 420];

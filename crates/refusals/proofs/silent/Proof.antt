@@ -12,19 +12,19 @@ returns : tie.Need-returns
 returns c =
     let a = c .before .before .before .before .args in
     let e = c .before .early-refusal .ensures in (
-      silent-early (a .lengths) (a .journal .now) (a .kept) (a .reply) (a .frame .now) (a .axes) (a .settings) e (c .if1 .taken),
+      silent-early (a .lengths) (a .journal .now) (a .kept) (a .frame .now) (a .axes) (a .settings) e (c .if1 .taken),
       sym (told-untested (a .settings .release) (a .frame .now) (λ z. c .if1 .taken (e ∙ z))),
     )
 
 test-sum-requires : tie.Need-test-sum-requires
 test-sum-requires c κs =
     let a = c .before .before .before .before .args in
-    silent-long (a .lengths) (a .journal .now) (a .kept) (a .reply) (a .frame .now) (a .axes) (a .settings) (sym (c .before .early-refusal .ensures) ∙ c .if1 .left)
+    silent-long (a .lengths) (a .journal .now) (a .kept) (a .frame .now) (a .axes) (a .settings) (sym (c .before .early-refusal .ensures) ∙ c .if1 .left)
 
 late-refusal-requires : tie.Need-late-refusal-requires
 late-refusal-requires c κs =
     let a = c .before .before .before .before .before .args in (
-      silent-long (a .lengths) (a .journal .now) (a .kept) (a .reply) (a .frame .now) (a .axes) (a .settings)
+      silent-long (a .lengths) (a .journal .now) (a .kept) (a .frame .now) (a .axes) (a .settings)
           (sym (c .before .before .early-refusal .ensures) ∙ c .before .if1 .left),
       c .test-sum .ensures,
     )
@@ -33,7 +33,7 @@ returns-2 : tie.Need-returns-2
 returns-2 c =
     let a = c .before .before .before .before .before .before .args in
     let e = sym (c .before .before .before .early-refusal .ensures) ∙ c .before .before .if1 .left in (
-      silent-late (a .lengths) (a .journal .now) (a .kept) (a .reply) (a .frame .now) (a .axes) (a .settings) e (c .late-refusal .ensures),
+      silent-late (a .lengths) (a .journal .now) (a .kept) (a .frame .now) (a .axes) (a .settings) e (c .late-refusal .ensures),
       ap Said (c .before .test-sum .ensures) ∙ sym (told-said (a .settings .release) (a .frame .now) e),
     )
 
