@@ -4,8 +4,8 @@
  * The input is received in pieces of every length, found, answered, then stepped back and queried. Then
  * test calls with line ends in them are received so, integer variables and flags are written, queried and
  * stepped back, frames in small letters are answered under each cabinet release, and frames with true and
- * wrong SCs and '@@' with that allowed and forbidden. Exits 0 where all is as the listing and the documents
- * say, 1 at the first difference.
+ * wrong SCs and '@@' with that allowed and forbidden; at last frames are checked and then acted on. Exits 0
+ * where all is as the listing and the documents say, 1 at the first difference.
  */
 #include "cabinet.h"
 
@@ -363,6 +363,102 @@ static int play_sums(void)
     return 0;
 }
 
+static int looking_failed(const char *what)
+{
+    fprintf(stderr, "looking first: %s\n", what);
+    return 1;
+}
+
+/* One check of which all is known; it leaves every byte of the board, of points and of the journal. */
+static int shows(const char *command, enum cabinet_refusal number, uint16_t message, size_t start,
+                 size_t count, enum cabinet_sum sum)
+{
+    static uint8_t points_before[sizeof points], journal_before[sizeof journal];
+    static struct cabinet before;
+    struct cabinet_shown shown = {.message = 0x5555, .start = 0x5555, .count = 0x5555, .sum = GUARD};
+    memset(board.reply, GUARD, sizeof board.reply);
+    memcpy(points_before, points, sizeof points);
+    memcpy(journal_before, journal, sizeof journal);
+    memcpy(&before, &board, sizeof board);
+    return cabinet_check_frame(&board, (const uint8_t *)command, strlen(command), &shown) == number &&
+           shown.message == message && shown.start == start && shown.count == count && shown.sum == sum &&
+           memcmp(&before, &board, sizeof board) == 0 && memcmp(points_before, points, sizeof points) == 0 &&
+           memcmp(journal_before, journal, sizeof journal) == 0;
+}
+
+/* One act of which all is known; there is nothing in the reply area beyond the reply. */
+static int does(const char *command, enum cabinet_refusal number, const char *expected, enum cabinet_sum sum)
+{
+    size_t i;
+    board.sum = GUARD;
+    memset(board.reply, GUARD, sizeof board.reply);
+    if (cabinet_act_frame(&board, (const uint8_t *)command, strlen(command)) != number || board.sum != sum ||
+        board.reply_length != strlen(expected) || memcmp(board.reply, expected, board.reply_length) != 0)
+        return 0;
+    for (i = board.reply_length; i < sizeof board.reply; i++)
+        if (board.reply[i] != GUARD)
+            return 0;
+    return 1;
+}
+
+/* The bench listing's frames, and a flag's: shown, then done; the write can be stepped back. */
+static int look_and_do(void)
+{
+    static const char write[] = "!9924400100103001E001E00640000C350FFFFFFFFF3\r\n";
+    return shows("!99200001234567829\r\n", CABINET_ACCEPTED, 0x200, 0, 0, CABINET_SUM_TRUE) &&
+           does("!99200001234567829\r\n", CABINET_ACCEPTED, "#9920000123456782B\r\n", CABINET_SUM_TRUE) &&
+           shows(write, CABINET_ACCEPTED, 0x244, 1, 1, CABINET_SUM_TRUE) && areas_are(0) &&
+           does(write, CABINET_ACCEPTED, "#9924400100151\r\n", CABINET_SUM_TRUE) && areas_are(1) &&
+           shows("!99209001005@@\r\n", CABINET_ACCEPTED, 0x209, 1, 5, CABINET_SUM_SWITCHED_OFF) &&
+           does("!99209001005@@\r\n", CABINET_ACCEPTED, "#9920900100103001E001E00640000C350FFFFFFFFF6\r\n",
+                CABINET_SUM_SWITCHED_OFF) && areas_are(1) &&
+           steps_back(CABINET_ACCEPTED) && areas_are(0) &&
+           shows("!9924B00025919C\r\n", CABINET_ACCEPTED, 0x24B, 601, 1, CABINET_SUM_TRUE) &&
+           does("!9924B00025919C\r\n", CABINET_ACCEPTED, "#9924B3D\r\n", CABINET_SUM_TRUE) &&
+           variables_are(0, 1) && steps_back(CABINET_ACCEPTED) && areas_are(0);
+}
+
+/* Refused by both with one number; what is shown of it is nothing. */
+static int look_and_refuse(void)
+{
+    static const char other[] = "!9A20835\r\n", unknown[] = "!99299@@\r\n", beyond[] = "!992091F50016B\r\n";
+    return shows("!992082E\r\n", CABINET_REFUSED_SC, 0, 0, 0, CABINET_SUM_WRONG) &&
+           does("!992082E\r\n", CABINET_REFUSED_SC, "", CABINET_SUM_WRONG) &&
+           shows("!99208@@\r", CABINET_REFUSED_FRAME, 0, 0, 0, CABINET_SUM_UNTESTED) &&
+           does("!99208@@\r", CABINET_REFUSED_FRAME, "", CABINET_SUM_UNTESTED) &&
+           shows(other, CABINET_REFUSED_STATION, 0, 0, 0, CABINET_SUM_TRUE) &&
+           does(other, CABINET_REFUSED_STATION, "", CABINET_SUM_TRUE) &&
+           shows(unknown, CABINET_REFUSED_MESSAGE, 0, 0, 0, CABINET_SUM_SWITCHED_OFF) &&
+           does(unknown, CABINET_REFUSED_MESSAGE, "&991012A\r\n", CABINET_SUM_SWITCHED_OFF) &&
+           shows(beyond, CABINET_REFUSED_NOT_HELD, 0, 0, 0, CABINET_SUM_TRUE) &&
+           does(beyond, CABINET_REFUSED_NOT_HELD, "&991062F\r\n", CABINET_SUM_TRUE) && areas_are(0);
+}
+
+/* The same after something changed between the two: acting goes by what is there then. */
+static int look_and_change(void)
+{
+    static const char write[] = "!9924E0012C0130@@\r\n";
+    int right = shows(write, CABINET_ACCEPTED, 0x24E, 300, 1, CABINET_SUM_SWITCHED_OFF);
+    board.forbid_unchecked = 1;
+    right = right && does(write, CABINET_REFUSED_SWITCHED_OFF, "", CABINET_SUM_SWITCHED_OFF) && areas_are(0) &&
+            shows(write, CABINET_REFUSED_SWITCHED_OFF, 0, 0, 0, CABINET_SUM_SWITCHED_OFF);
+    board.forbid_unchecked = 0;
+    return right && does(write, CABINET_ACCEPTED, "#9924E40\r\n", CABINET_SUM_SWITCHED_OFF) &&
+           board.columns[0] == 0x30 && steps_back(CABINET_ACCEPTED) && areas_are(0);
+}
+
+static int play_looking(void)
+{
+    start_fresh();
+    if (!look_and_do())
+        return looking_failed("shown and done");
+    if (!look_and_refuse())
+        return looking_failed("refused");
+    if (!look_and_change())
+        return looking_failed("changed between");
+    return 0;
+}
+
 int main(void)
 {
     size_t piece;
@@ -372,7 +468,7 @@ int main(void)
     for (piece = 1; piece < sizeof test_calls; piece++)
         if (play_test_calls(piece) != 0)
             return 1;
-    if (play_variables() != 0 || play_releases() != 0 || play_sums() != 0)
+    if (play_variables() != 0 || play_releases() != 0 || play_sums() != 0 || play_looking() != 0)
         return 1;
     printf("bench listing: every byte as document 01 has it, in pieces of 1 to %lu\n",
            (unsigned long)(sizeof input - 1));
@@ -381,5 +477,6 @@ int main(void)
     printf("integers and flags: written, queried, refused and stepped back as the documents say\n");
     printf("small letters: refused under release 1, accepted under release 2, replied in capitals\n");
     printf("sums: true, switched off and wrong told, '@@' accepted where it is allowed and refused where not\n");
+    printf("looking first: checks show what acting then does, or its refusal, and leave every byte\n");
     return 0;
 }

@@ -42,18 +42,29 @@
 #undef PLAIN_H
 #define plain_receive plain_o3_receive
 #define plain_answer plain_o3_answer
+#define plain_check plain_o3_check
+#define plain_act plain_o3_act
 #define plain_step_back plain_o3_step_back
 #include "plain.h"
 #undef plain_receive
 #undef plain_answer
+#undef plain_check
+#undef plain_act
 #undef plain_step_back
+
+typedef uint16_t answer_call(const uint8_t *, size_t, uint8_t *, size_t, uint8_t *, size_t, uint8_t *, size_t,
+                             uint8_t *, size_t, uint8_t *, size_t, size_t *, const uint8_t *, size_t,
+                             uint8_t, uint8_t, uint8_t, uint8_t, uint16_t, uint16_t, uint8_t *, size_t,
+                             size_t *, uint8_t *);
 
 struct calls {
     uint8_t (*receive)(const uint8_t *, size_t, size_t *, size_t *, size_t *);
-    uint16_t (*answer)(const uint8_t *, size_t, uint8_t *, size_t, uint8_t *, size_t, uint8_t *, size_t,
-                       uint8_t *, size_t, uint8_t *, size_t, size_t *, const uint8_t *, size_t,
-                       uint8_t, uint8_t, uint8_t, uint8_t, uint16_t, uint16_t, uint8_t *, size_t, size_t *,
-                       uint8_t *);
+    answer_call *answer;
+    uint16_t (*check)(const uint8_t *, size_t, const uint8_t *, size_t, const uint8_t *, size_t,
+                      const uint8_t *, size_t, const uint8_t *, size_t, const uint8_t *, size_t, size_t,
+                      const uint8_t *, size_t, uint8_t, uint8_t, uint8_t, uint8_t, uint16_t, uint16_t,
+                      uint8_t *, uint16_t *, size_t *, size_t *);
+    answer_call *act;
     uint16_t (*step_back)(uint8_t *, size_t, uint8_t *, size_t, uint8_t *, size_t, uint8_t *, size_t,
                           uint8_t *, size_t, size_t *, uint16_t, uint16_t);
 };
@@ -61,9 +72,9 @@ struct calls {
 enum { ARCHIVE, PLAIN_O2, PLAIN_O3, MADE };
 
 static const struct calls made[MADE] = {
-    {cabinet_receive, cabinet_answer, cabinet_step_back},
-    {plain_receive, plain_answer, plain_step_back},
-    {plain_o3_receive, plain_o3_answer, plain_o3_step_back}
+    {cabinet_receive, cabinet_answer, cabinet_check, cabinet_act, cabinet_step_back},
+    {plain_receive, plain_answer, plain_check, plain_act, plain_step_back},
+    {plain_o3_receive, plain_o3_answer, plain_o3_check, plain_o3_act, plain_o3_step_back}
 };
 
 /* ---- a trial ---- */
@@ -72,17 +83,19 @@ static const struct calls made[MADE] = {
 struct board {
     size_t used;
     size_t reply_length;
-    size_t start, length, drop;
+    size_t start, length, drop; /* of the finder; a check's run is start and count */
+    size_t count;
     uint8_t points[CABINET_POINTS_BYTES(CABINET_MOST_POINTS)];
     uint8_t columns[CABINET_COLUMNS_BYTES];
     uint8_t integers[CABINET_INTEGERS_BYTES];
     uint8_t flags[CABINET_FLAGS_BYTES];
     uint8_t journal[CABINET_MOST_JOURNAL_BYTES];
     uint8_t reply[CABINET_REPLY_BYTES];
-    uint8_t sum; /* behind the areas: these stay aligned */
+    uint16_t message; /* behind the areas, as the sum: these stay aligned */
+    uint8_t sum;
 };
 
-enum kind { ANSWER, STEP_BACK, RECEIVE };
+enum kind { ANSWER, CHECK, ACT, STEP_BACK, RECEIVE };
 
 static struct {
     char name[64];
@@ -107,14 +120,20 @@ static void fail(const char *why)
 
 static unsigned make_call(const struct calls *calls)
 {
-    if (trial.kind == ANSWER)
-        return calls->answer(trial.handed, trial.handed_length, work.points,
-                             CABINET_POINTS_BYTES(trial.held), work.columns, CABINET_COLUMNS_BYTES,
-                             work.integers, CABINET_INTEGERS_BYTES, work.flags, CABINET_FLAGS_BYTES,
-                             work.journal, trial.journal_length, &work.used, trial.axes,
-                             CABINET_AXES_BYTES, FITTED, STATION, RELEASE, UNCHECKED,
-                             FIRST_INTEGER, FIRST_FLAG, work.reply, CABINET_REPLY_BYTES,
-                             &work.reply_length, &work.sum);
+    if (trial.kind == ANSWER || trial.kind == ACT)
+        return (trial.kind == ANSWER ? calls->answer : calls->act)(
+            trial.handed, trial.handed_length, work.points, CABINET_POINTS_BYTES(trial.held),
+            work.columns, CABINET_COLUMNS_BYTES, work.integers, CABINET_INTEGERS_BYTES,
+            work.flags, CABINET_FLAGS_BYTES, work.journal, trial.journal_length, &work.used, trial.axes,
+            CABINET_AXES_BYTES, FITTED, STATION, RELEASE, UNCHECKED, FIRST_INTEGER, FIRST_FLAG,
+            work.reply, CABINET_REPLY_BYTES, &work.reply_length, &work.sum);
+    if (trial.kind == CHECK)
+        return calls->check(trial.handed, trial.handed_length, work.points,
+                            CABINET_POINTS_BYTES(trial.held), work.columns, CABINET_COLUMNS_BYTES,
+                            work.integers, CABINET_INTEGERS_BYTES, work.flags, CABINET_FLAGS_BYTES,
+                            work.journal, trial.journal_length, work.used, trial.axes,
+                            CABINET_AXES_BYTES, FITTED, STATION, RELEASE, UNCHECKED,
+                            FIRST_INTEGER, FIRST_FLAG, &work.sum, &work.message, &work.start, &work.count);
     if (trial.kind == STEP_BACK)
         return calls->step_back(work.points, CABINET_POINTS_BYTES(trial.held),
                                 work.columns, CABINET_COLUMNS_BYTES,
@@ -289,6 +308,8 @@ static void compare(const struct board *one, const struct board *other)
         fail("another used length, reply's length or sum");
     if (one->start != other->start || one->length != other->length || one->drop != other->drop)
         fail("another place was found");
+    if (one->message != other->message || one->count != other->count)
+        fail("something else was shown");
     if (memcmp(one->points, other->points, sizeof one->points) != 0)
         fail("another points area");
     if (memcmp(one->columns, other->columns, sizeof one->columns) != 0)
@@ -397,7 +418,7 @@ static void print_head(void)
 
 /*
  * The ratio is to the faster of the two. `bytes` are those that the line carries for the call; a step back
- * has none.
+ * has none. A check's frame comes on the line, its reply only by acting.
  */
 static void print_row(const double best[MADE], size_t bytes)
 {
@@ -436,6 +457,21 @@ static void run_frame(unsigned number, size_t reply_length)
 {
     close_frame(0, 0);
     run(number, reply_length);
+}
+
+/* A frame that is checked, and shows this; or acted on. */
+static void run_check(uint16_t message, size_t start, size_t count)
+{
+    trial.kind = CHECK;
+    run_frame(CABINET_ACCEPTED, 0);
+    if (work.message != message || work.start != start || work.count != count)
+        fail("something else was shown than expected");
+}
+
+static void run_act(size_t reply_length)
+{
+    trial.kind = ACT;
+    run_frame(CABINET_ACCEPTED, reply_length);
 }
 
 static void run_back(void)
@@ -599,6 +635,29 @@ static void wrong_pattern(size_t held)
     run_frame(CABINET_REFUSED_PATTERN, CABINET_ERROR_REPLY_BYTES);
 }
 
+/* ---- looking first ---- */
+
+static void check_count(size_t held)
+{
+    begin("check, 208H", held);
+    say("!99208");
+    run_check(0x208, 0, 0);
+}
+
+static void check_points(size_t held)
+{
+    begin("check, 244H, 12 eight-axis points", held);
+    say_points(7, 12);
+    run_check(0x244, 7, 12);
+}
+
+static void act_on_points(size_t held)
+{
+    begin("act, 244H, 12 eight-axis points", held);
+    say_points(7, 12);
+    run_act(16);
+}
+
 /* ---- calls with entries in the journal ---- */
 
 static void write_points_half_full(size_t held)
@@ -735,6 +794,7 @@ static void (*const trials[])(size_t) = {
     test_call, point_count, full_list, sparse_list, flag_query, integer_query, column_query, axis_status,
     write_point, write_points, clear_points, clear_all, write_flag, write_integers, write_columns,
     wrong_sum, unknown_message, not_held, wrong_pattern,
+    check_count, check_points, act_on_points,
     write_points_half_full, write_column_half_full, write_points_full, write_column_full,
     clear_full_of_columns, test_call_full_of_columns,
     back_to_empty, back_from_full, back_from_full_of_columns

@@ -1,5 +1,6 @@
 /*
- * plain.c: the board's three calls, written plainly by hand from documents 01, 02 (requests a, c, f, l) and 000.
+ * plain.c: the board's five calls, written plainly by hand from documents 01, 02 (requests a, c, f, g, l) and
+ * 000.
  *
  * No heap and no second buffers: replies are written where they are lent, old bytes go straight into
  * the journal. A frame is read once for its sum and once for its fields. Any bytes and any lengths
@@ -196,19 +197,25 @@ static size_t error_reply(uint8_t *reply, uint8_t station, uint16_t number)
 
 /* ---- areas ---- */
 
-/* The areas of a call that passed tests 2, 3, 10 and 4. */
-struct areas {
-    uint8_t *points;
-    size_t held; /* N */
-    uint8_t *columns;
-    uint8_t *integers;
-    size_t first_integer, last_integer;
-    uint8_t *flags;
-    size_t first_flag, last_flag;
-    uint8_t *journal;
+/* What the tests of a call's areas read and what they find: of the areas nothing is written through it. */
+struct seen {
+    const uint8_t *journal;
     size_t journal_length;
     size_t used;
+    size_t held; /* N */
+    size_t first_integer, last_integer;
+    size_t first_flag, last_flag;
     size_t last; /* where the last entry begins, if there is one */
+};
+
+/* The areas of a call that passed tests 2, 3, 10 and 4, to be written. */
+struct areas {
+    uint8_t *points;
+    uint8_t *columns;
+    uint8_t *integers;
+    uint8_t *flags;
+    uint8_t *journal;
+    struct seen seen;
 };
 
 /* Whether the numbers from start to start+count-1 are among first to last. */
@@ -218,7 +225,7 @@ static int is_held(size_t start, size_t count, size_t first, size_t last)
 }
 
 /* Length of the well-formed entry at the front of `left` bytes, 0 where there is none. */
-static size_t entry_length(const struct areas *areas, const uint8_t *entry, size_t left)
+static size_t entry_length(const struct seen *seen, const uint8_t *entry, size_t left)
 {
     size_t follows, old, start;
     int good = 0;
@@ -230,55 +237,55 @@ static size_t entry_length(const struct areas *areas, const uint8_t *entry, size
         return 0;
     old = follows - ENTRY_START;
     if (entry[0] == POINTS_TAG)
-        good = old % SLOT == 0 && is_held(start, old / SLOT, 1, areas->held);
+        good = old % SLOT == 0 && is_held(start, old / SLOT, 1, seen->held);
     else if (entry[0] == COLUMNS_TAG)
         good = old <= MOST_ENTRY_COLUMNS && is_held(start, old, FIRST_COLUMN, LAST_COLUMN);
     else if (entry[0] == INTEGERS_TAG)
-        good = old % INTEGER == 0 && is_held(start, old / INTEGER, areas->first_integer, areas->last_integer);
+        good = old % INTEGER == 0 && is_held(start, old / INTEGER, seen->first_integer, seen->last_integer);
     else if (entry[0] == FLAGS_TAG)
-        good = old == 1 && is_held(start, 1, areas->first_flag, areas->last_flag);
+        good = old == 1 && is_held(start, 1, seen->first_flag, seen->last_flag);
     return good ? ENTRY_HEAD + old : 0;
 }
 
 /* Whether the used part is whole well-formed entries; finds the last one. */
-static int walk_journal(struct areas *areas)
+static int walk_journal(struct seen *seen)
 {
     size_t at = 0, length;
-    areas->last = 0;
-    while (at < areas->used) {
-        length = entry_length(areas, areas->journal + at, areas->used - at);
+    seen->last = 0;
+    while (at < seen->used) {
+        length = entry_length(seen, seen->journal + at, seen->used - at);
         if (length == 0)
             return 0;
-        areas->last = at;
+        seen->last = at;
         at += length;
     }
     return 1;
 }
 
-/* Tests 2, 3, 10 and 4, which both calls make; 0 where none holds. */
-static uint16_t test_areas(struct areas *areas, size_t points_length, size_t columns_length,
+/* Tests 2, 3, 10 and 4, which a step back makes too; 0 where none holds. */
+static uint16_t test_areas(struct seen *seen, size_t points_length, size_t columns_length,
                            size_t integers_length, size_t flags_length)
 {
     if (points_length % SLOT != 0 || points_length < SLOT || points_length > MOST_POINTS_LENGTH)
         return 2;
     if (columns_length != COLUMNS_LENGTH)
         return 3;
-    areas->last_integer = areas->first_integer + INTEGERS - 1;
-    areas->last_flag = areas->first_flag + FLAGS - 1;
-    if (integers_length != INTEGER * INTEGERS || areas->last_integer > MOST_INTEGER ||
-        flags_length != FLAGS || areas->last_flag > MOST_FLAG)
+    seen->last_integer = seen->first_integer + INTEGERS - 1;
+    seen->last_flag = seen->first_flag + FLAGS - 1;
+    if (integers_length != INTEGER * INTEGERS || seen->last_integer > MOST_INTEGER ||
+        flags_length != FLAGS || seen->last_flag > MOST_FLAG)
         return 10;
-    if (areas->journal_length < points_length + JOURNAL_MORE || areas->journal_length > MOST_JOURNAL)
+    if (seen->journal_length < points_length + JOURNAL_MORE || seen->journal_length > MOST_JOURNAL)
         return 4;
-    areas->held = points_length / SLOT;
-    return areas->used <= areas->journal_length && walk_journal(areas) ? 0 : 4;
+    seen->held = points_length / SLOT;
+    return seen->used <= seen->journal_length && walk_journal(seen) ? 0 : 4;
 }
 
 /* Bytes of the oldest entries to be dropped, no more than needed, until `length` more fit. */
 static size_t to_drop(const struct areas *areas, size_t length)
 {
     size_t dropped = 0;
-    while (areas->used - dropped + length > areas->journal_length)
+    while (areas->seen.used - dropped + length > areas->seen.journal_length)
         dropped += ENTRY_HEAD - ENTRY_START + pair(areas->journal + dropped + 1);
     return dropped;
 }
@@ -288,7 +295,7 @@ static void keep_old(struct areas *areas, uint8_t tag, unsigned start,
                      const uint8_t *old, size_t length)
 {
     size_t dropped = to_drop(areas, ENTRY_HEAD + length);
-    size_t kept = areas->used - dropped;
+    size_t kept = areas->seen.used - dropped;
     uint8_t *entry = areas->journal + kept;
     if (dropped > 0)
         memmove(areas->journal, areas->journal + dropped, kept);
@@ -298,8 +305,8 @@ static void keep_old(struct areas *areas, uint8_t tag, unsigned start,
     entry[3] = (uint8_t)(start >> 8);
     entry[4] = (uint8_t)start;
     memcpy(entry + ENTRY_HEAD, old, length);
-    areas->used = kept + ENTRY_HEAD + length;
-    memset(areas->journal + areas->used, 0, areas->journal_length - areas->used);
+    areas->seen.used = kept + ENTRY_HEAD + length;
+    memset(areas->journal + areas->seen.used, 0, areas->seen.journal_length - areas->seen.used);
 }
 
 /* Where the bytes of a held number begin. */
@@ -310,18 +317,18 @@ static uint8_t *place_of(const struct areas *areas, uint8_t tag, size_t start)
     if (tag == COLUMNS_TAG)
         return areas->columns + (start - FIRST_COLUMN);
     if (tag == INTEGERS_TAG)
-        return areas->integers + INTEGER * (start - areas->first_integer);
-    return areas->flags + (start - areas->first_flag);
+        return areas->integers + INTEGER * (start - areas->seen.first_integer);
+    return areas->flags + (start - areas->seen.first_flag);
 }
 
 /* Puts the last entry's old bytes back and removes it. */
 static void take_back(struct areas *areas)
 {
-    uint8_t *entry = areas->journal + areas->last;
-    size_t length = areas->used - areas->last - ENTRY_HEAD;
+    uint8_t *entry = areas->journal + areas->seen.last;
+    size_t length = areas->seen.used - areas->seen.last - ENTRY_HEAD;
     memcpy(place_of(areas, entry[0], pair(entry + 3)), entry + ENTRY_HEAD, length);
-    memset(entry, 0, areas->journal_length - areas->last);
-    areas->used = areas->last;
+    memset(entry, 0, areas->seen.journal_length - areas->seen.last);
+    areas->seen.used = areas->seen.last;
 }
 
 /* ---- frames ---- */
@@ -511,7 +518,7 @@ static uint16_t judge_flag(struct asked *asked, size_t first, size_t last)
 }
 
 /* 101 to 108; 0 where none holds. `digits` is what the sum test found of the content. */
-static uint16_t judge(struct asked *asked, unsigned digits, const struct areas *areas, uint8_t fitted)
+static uint16_t judge(struct asked *asked, unsigned digits, const struct seen *seen, uint8_t fitted)
 {
     if (asked->message == UNKNOWN)
         return 101;
@@ -529,15 +536,15 @@ static uint16_t judge(struct asked *asked, unsigned digits, const struct areas *
     case COLUMN_WRITE:
         return judge_run(asked, 2, FIRST_COLUMN, LAST_COLUMN);
     case INTEGER_QUERY:
-        return judge_run(asked, 0, areas->first_integer, areas->last_integer);
+        return judge_run(asked, 0, seen->first_integer, seen->last_integer);
     case INTEGER_WRITE:
-        return judge_run(asked, 2 * INTEGER, areas->first_integer, areas->last_integer);
+        return judge_run(asked, 2 * INTEGER, seen->first_integer, seen->last_integer);
     case FLAG_QUERY:
-        return judge_flags(asked, areas->first_flag, areas->last_flag);
+        return judge_flags(asked, seen->first_flag, seen->last_flag);
     case FLAG_WRITE:
-        return judge_flag(asked, areas->first_flag, areas->last_flag);
+        return judge_flag(asked, seen->first_flag, seen->last_flag);
     default:
-        return judge_points(asked, areas->held, fitted);
+        return judge_points(asked, seen->held, fitted);
     }
 }
 
@@ -545,7 +552,7 @@ static uint16_t judge(struct asked *asked, unsigned digits, const struct areas *
 
 static void put_point_count(struct text *text, const struct areas *areas)
 {
-    const uint8_t *slot = areas->points, *end = areas->points + SLOT * areas->held;
+    const uint8_t *slot = areas->points, *end = areas->points + SLOT * areas->seen.held;
     unsigned count = 0;
     for (; slot < end; slot += SLOT)
         count += slot[0] != 0;
@@ -853,6 +860,88 @@ static struct asked read_frame(const uint8_t *frame, size_t frame_length, unsign
     return asked;
 }
 
+/*
+ * The first half of a frame's answer, which checking and acting go through: all tests but 1, in their order,
+ * the first of them on the areas' lengths and the journal; 0 where none holds. Nothing that is lent is
+ * written. *sum is what the sum test says, and *asked is set where no refusal without a reply holds.
+ */
+static uint16_t look(const uint8_t *frame, size_t frame_length, size_t points_length, size_t columns_length,
+                     size_t integers_length, size_t flags_length, struct seen *seen,
+                     const uint8_t *axes, size_t axes_length,
+                     uint8_t fitted, uint8_t station, uint8_t release, uint8_t unchecked,
+                     uint8_t *sum, struct asked *asked)
+{
+    unsigned rule = rule_of(release), digits = 0;
+    uint16_t number;
+    *sum = UNTESTED;
+    number = test_areas(seen, points_length, columns_length, integers_length, flags_length);
+    if (number == 0)
+        number = test_frame(frame, frame_length, axes, axes_length, fitted, station, rule, unchecked,
+                            sum, &digits);
+    if (number != 0)
+        return number;
+    *asked = read_frame(frame, frame_length, rule);
+    return judge(asked, digits, seen, fitted);
+}
+
+uint16_t plain_check(const uint8_t *frame, size_t frame_length,
+                     const uint8_t *points, size_t points_length,
+                     const uint8_t *columns, size_t columns_length,
+                     const uint8_t *integers, size_t integers_length,
+                     const uint8_t *flags, size_t flags_length,
+                     const uint8_t *journal, size_t journal_length, size_t used,
+                     const uint8_t *axes, size_t axes_length,
+                     uint8_t fitted, uint8_t station, uint8_t release, uint8_t unchecked,
+                     uint16_t first_integer, uint16_t first_flag,
+                     uint8_t *sum, uint16_t *message, size_t *start, size_t *count)
+{
+    struct seen seen = {journal, journal_length, used, 0, first_integer, 0, first_flag, 0, 0};
+    struct asked asked = {UNKNOWN, NULL, 0, 0, 0};
+    uint16_t number = look(frame, frame_length, points_length, columns_length, integers_length, flags_length,
+                           &seen, axes, axes_length, fitted, station, release, unchecked, sum, &asked);
+    (void)points, (void)columns, (void)integers, (void)flags; /* no test reads what is kept in them */
+    *message = number == 0 ? (uint16_t)asked.message : 0;
+    *start = number == 0 ? asked.start : 0;
+    *count = number == 0 ? asked.count : 0;
+    return number;
+}
+
+uint16_t plain_act(const uint8_t *frame, size_t frame_length,
+                   uint8_t *points, size_t points_length,
+                   uint8_t *columns, size_t columns_length,
+                   uint8_t *integers, size_t integers_length,
+                   uint8_t *flags, size_t flags_length,
+                   uint8_t *journal, size_t journal_length, size_t *used,
+                   const uint8_t *axes, size_t axes_length,
+                   uint8_t fitted, uint8_t station, uint8_t release, uint8_t unchecked,
+                   uint16_t first_integer, uint16_t first_flag,
+                   uint8_t *reply, size_t reply_area_length, size_t *reply_length,
+                   uint8_t *sum)
+{
+    struct areas areas = {points, columns, integers, flags, journal,
+                          {journal, journal_length, *used, 0, first_integer, 0, first_flag, 0, 0}};
+    struct text text = {reply, 0};
+    struct asked asked;
+    uint16_t number;
+    *reply_length = 0;
+    *sum = UNTESTED;
+    if (reply_area_length < LONGEST_REPLY)
+        return 1;
+    number = look(frame, frame_length, points_length, columns_length, integers_length, flags_length,
+                  &areas.seen, axes, axes_length, fitted, station, release, unchecked, sum, &asked);
+    if (number > 100)
+        *reply_length = error_reply(reply, station, number);
+    if (number != 0)
+        return number;
+    put(&text, '#');
+    put_digits(&text, frame + 1, CONTENT_AT - 1); /* station and message ID are the command's */
+    carry_out(&text, &areas, &asked, axes, fitted);
+    *reply_length = close_reply(&text, reply);
+    *used = areas.seen.used;
+    return 0;
+}
+
+/* In a single call: acting needs no check before it. */
 uint16_t plain_answer(const uint8_t *frame, size_t frame_length,
                       uint8_t *points, size_t points_length,
                       uint8_t *columns, size_t columns_length,
@@ -865,34 +954,10 @@ uint16_t plain_answer(const uint8_t *frame, size_t frame_length,
                       uint8_t *reply, size_t reply_area_length, size_t *reply_length,
                       uint8_t *sum)
 {
-    struct areas areas = {points, 0, columns, integers, first_integer, 0, flags, first_flag, 0,
-                          journal, journal_length, *used, 0};
-    struct text text = {reply, 0};
-    struct asked asked;
-    unsigned rule = rule_of(release), digits = 0;
-    uint16_t number;
-    *reply_length = 0;
-    *sum = UNTESTED;
-    if (reply_area_length < LONGEST_REPLY)
-        return 1;
-    number = test_areas(&areas, points_length, columns_length, integers_length, flags_length);
-    if (number == 0)
-        number = test_frame(frame, frame_length, axes, axes_length, fitted, station, rule, unchecked,
-                            sum, &digits);
-    if (number != 0)
-        return number;
-    asked = read_frame(frame, frame_length, rule);
-    number = judge(&asked, digits, &areas, fitted);
-    if (number != 0) {
-        *reply_length = error_reply(reply, station, number);
-        return number;
-    }
-    put(&text, '#');
-    put_digits(&text, frame + 1, CONTENT_AT - 1); /* station and message ID are the command's */
-    carry_out(&text, &areas, &asked, axes, fitted);
-    *reply_length = close_reply(&text, reply);
-    *used = areas.used;
-    return 0;
+    return plain_act(frame, frame_length, points, points_length, columns, columns_length,
+                     integers, integers_length, flags, flags_length, journal, journal_length, used,
+                     axes, axes_length, fitted, station, release, unchecked, first_integer, first_flag,
+                     reply, reply_area_length, reply_length, sum);
 }
 
 uint16_t plain_step_back(uint8_t *points, size_t points_length,
@@ -902,14 +967,14 @@ uint16_t plain_step_back(uint8_t *points, size_t points_length,
                          uint8_t *journal, size_t journal_length, size_t *used,
                          uint16_t first_integer, uint16_t first_flag)
 {
-    struct areas areas = {points, 0, columns, integers, first_integer, 0, flags, first_flag, 0,
-                          journal, journal_length, *used, 0};
-    uint16_t number = test_areas(&areas, points_length, columns_length, integers_length, flags_length);
+    struct areas areas = {points, columns, integers, flags, journal,
+                          {journal, journal_length, *used, 0, first_integer, 0, first_flag, 0, 0}};
+    uint16_t number = test_areas(&areas.seen, points_length, columns_length, integers_length, flags_length);
     if (number != 0)
         return number;
-    if (areas.used == 0)
+    if (areas.seen.used == 0)
         return 9;
     take_back(&areas);
-    *used = areas.used;
+    *used = areas.seen.used;
     return 0;
 }

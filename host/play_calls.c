@@ -2,9 +2,9 @@
  * play_calls.c: makes the calls that the comparison hands over (second/README.md, "Player").
  *
  * Reads operations from standard input until its end and writes what each call leaves to standard
- * output. Every area is an allocation of its lent bytes and the guards on both sides, no more. Exits 2
- * where the operations are malformed or there is no memory, 3 where what it writes isn't taken, 4 where a
- * call wrote beside the sum, which is an allocation of one byte with guards of its own.
+ * output. Every area is an allocation of its lent bytes and the guards on both sides, no more, and so is
+ * every number that a call writes. Exits 2 where the operations are malformed or there is no memory, 3 where
+ * what it writes isn't taken, 4 where a call wrote beside a number.
  */
 #include "cabinet.h"
 
@@ -12,11 +12,16 @@
 #include <stdlib.h>
 #include <string.h>
 
-#define GUARD 0xC7       /* fills the guards */
-#define UNSET 0x55555555 /* stands in each out number before the call */
-#define UNSET_SUM 0x55   /* stands in the sum before the call */
+#define GUARD 0xC7 /* fills the guards */
+#define UNSET 0x55 /* each byte of an out number before the call */
 
 enum { HANDED, POINTS, COLUMNS, INTEGERS, FLAGS, JOURNAL, AXES, REPLY, PARTS };
+
+/* The numbers that a call writes: what the sum test said, the message, and those of a size_t. */
+enum { SUM, MESSAGE, SIZE_1, SIZE_2, SIZE_3, USED, NUMBERS };
+
+/* How many out numbers are sent back for each call. */
+enum { OUT = 4 };
 
 struct area {
     uint8_t *whole;  /* guard, lent bytes, guard */
@@ -25,8 +30,8 @@ struct area {
 };
 
 static struct area area[PARTS];
-static struct area sum; /* one byte */
-static size_t guard;
+static struct area written[NUMBERS];
+static size_t guard; /* a multiple of eight, so that numbers are aligned */
 
 static void fail(const char *why, int code)
 {
@@ -116,9 +121,12 @@ static void set_guard(void)
     if (area[0].whole != NULL)
         fail("malformed operation", 2);
     guard = (size_t)number(4);
+    if (guard % 8 != 0)
+        fail("malformed operation", 2);
     for (named = 0; named < PARTS; named++)
         lend(&area[named], 0);
-    lend(&sum, 1);
+    for (named = 0; named < NUMBERS; named++)
+        lend(&written[named], named == SUM ? 1 : named == MESSAGE ? sizeof(uint16_t) : sizeof(size_t));
 }
 
 static void set_length(void)
@@ -188,44 +196,90 @@ static void give_area(struct area *a)
     give_number(digest(now, a->length), 8);
 }
 
-/* What the call said in the byte lent for the sum. */
-static size_t sum_told(void)
+/* A number that a call writes, of type size_t. */
+static size_t *size(size_t named)
 {
-    if (!guards_are_whole(&sum))
-        fail("written beside the sum", 4);
-    return *lent(&sum);
+    return (size_t *)(void *)lent(&written[named]);
+}
+
+static uint16_t *message(void)
+{
+    return (uint16_t *)(void *)lent(&written[MESSAGE]);
+}
+
+/* Before a call: all out numbers unset, and the used length as handed over. */
+static void unset_numbers(size_t used)
+{
+    size_t named;
+    for (named = 0; named < NUMBERS; named++)
+        memset(lent(&written[named]), UNSET, written[named].length);
+    *size(USED) = used;
+}
+
+/* After a call: nothing was written beside a number. */
+static void look_beside_numbers(void)
+{
+    size_t named;
+    for (named = 0; named < NUMBERS; named++)
+        if (!guards_are_whole(&written[named]))
+            fail("written beside a number", 4);
+}
+
+/* Sends so many out numbers as a call has, and for the others that they aren't set. */
+static void give_out(const uint64_t *out, size_t count)
+{
+    size_t i;
+    for (i = 0; i < OUT; i++)
+        give_number(i < count ? out[i] : UINT64_C(0x5555555555555555), 8);
 }
 
 static void call(int kind)
 {
-    size_t used = (size_t)number(8), out[3] = {UNSET, UNSET, UNSET}, i;
+    size_t used = (size_t)number(8), i;
     uint8_t fitted = (uint8_t)number(1), station = (uint8_t)number(1), release = (uint8_t)number(1);
     uint8_t unchecked = (uint8_t)number(1);
     uint16_t first_integer = (uint16_t)number(2), first_flag = (uint16_t)number(2);
     struct area *p = &area[POINTS], *c = &area[COLUMNS], *n = &area[INTEGERS], *f = &area[FLAGS];
     struct area *j = &area[JOURNAL], *x = &area[AXES], *r = &area[REPLY], *h = &area[HANDED];
+    uint64_t out[OUT];
+    size_t outs = 0;
     unsigned returned;
 
     if (p->whole == NULL)
         fail("malformed operation", 2);
-    if (kind == 'F') {
-        *lent(&sum) = UNSET_SUM;
-        returned = cabinet_answer(lent(h), h->length, lent(p), p->length, lent(c), c->length,
-                                  lent(n), n->length, lent(f), f->length, lent(j), j->length, &used,
-                                  lent(x), x->length, fitted, station, release, unchecked,
-                                  first_integer, first_flag, lent(r), r->length, &out[0], lent(&sum));
-        out[1] = sum_told();
-    } else if (kind == 'S')
+    unset_numbers(used);
+    if (kind == 'F' || kind == 'A') {
+        returned = (kind == 'F' ? cabinet_answer : cabinet_act)(
+            lent(h), h->length, lent(p), p->length, lent(c), c->length, lent(n), n->length,
+            lent(f), f->length, lent(j), j->length, size(USED), lent(x), x->length,
+            fitted, station, release, unchecked, first_integer, first_flag,
+            lent(r), r->length, size(SIZE_1), lent(&written[SUM]));
+        out[outs++] = *size(SIZE_1);
+        out[outs++] = *lent(&written[SUM]);
+    } else if (kind == 'C') {
+        returned = cabinet_check(lent(h), h->length, lent(p), p->length, lent(c), c->length,
+                                 lent(n), n->length, lent(f), f->length, lent(j), j->length, used,
+                                 lent(x), x->length, fitted, station, release, unchecked,
+                                 first_integer, first_flag, lent(&written[SUM]), message(),
+                                 size(SIZE_1), size(SIZE_2));
+        out[outs++] = *lent(&written[SUM]);
+        out[outs++] = *message();
+        out[outs++] = *size(SIZE_1);
+        out[outs++] = *size(SIZE_2);
+    } else if (kind == 'S') {
         returned = cabinet_step_back(lent(p), p->length, lent(c), c->length, lent(n), n->length,
-                                     lent(f), f->length, lent(j), j->length, &used,
+                                     lent(f), f->length, lent(j), j->length, size(USED),
                                      first_integer, first_flag);
-    else
-        returned = cabinet_receive(lent(h), h->length, &out[0], &out[1], &out[2]);
+    } else {
+        returned = cabinet_receive(lent(h), h->length, size(SIZE_1), size(SIZE_2), size(SIZE_3));
+        for (i = SIZE_1; i <= SIZE_3; i++)
+            out[outs++] = *size(i);
+    }
 
+    look_beside_numbers();
     give_number(returned, 2);
-    for (i = 0; i < 3; i++)
-        give_number(out[i], 8);
-    give_number(used, 8);
+    give_out(out, outs);
+    give_number(*size(USED), 8);
     for (i = 0; i < PARTS; i++)
         give_area(&area[i]);
 }
@@ -241,6 +295,8 @@ int main(void)
         case 'L': set_length(); break;
         case 'W': set_bytes(); break;
         case 'F':
+        case 'C':
+        case 'A':
         case 'S':
         case 'R': call(kind); break;
         case 'Q':

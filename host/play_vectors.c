@@ -10,7 +10,8 @@
 #include <stdlib.h>
 #include <string.h>
 
-#define UNSET 0x55 /* stands in the sum before the call: one that isn't set is seen */
+/* What stands in the numbers of a check, and in the sum, before the call: one that isn't set is seen. */
+#define UNSET 0x55
 
 enum { POINTS, COLUMNS, INTEGERS, FLAGS, JOURNAL, REPLY, AXES, PARTS };
 
@@ -124,19 +125,34 @@ static void print_digests(size_t count)
     printf("\n");
 }
 
-static void answer(void)
+/* 'F' answers a frame, 'A' acts on it. */
+static void answer(int kind)
 {
-    size_t length = (size_t)number(2), reply_length;
+    size_t length = (size_t)number(2), reply_length = UNSET;
     const uint8_t *frame = take(length);
     uint8_t sum = UNSET;
-    unsigned given = cabinet_answer(frame, length, points, lent[POINTS], columns, lent[COLUMNS],
-                                    integers, lent[INTEGERS], flags, lent[FLAGS],
-                                    journal, lent[JOURNAL], &used, axes, lent[AXES],
-                                    fitted, station, release, unchecked,
-                                    first_integer, first_flag,
-                                    reply, lent[REPLY], &reply_length, &sum);
-    printf("F %u %lu %lu %u", given, (unsigned long)reply_length, (unsigned long)used, sum);
+    unsigned given = (kind == 'F' ? cabinet_answer : cabinet_act)(
+        frame, length, points, lent[POINTS], columns, lent[COLUMNS], integers, lent[INTEGERS],
+        flags, lent[FLAGS], journal, lent[JOURNAL], &used, axes, lent[AXES],
+        fitted, station, release, unchecked, first_integer, first_flag,
+        reply, lent[REPLY], &reply_length, &sum);
+    printf("%c %u %lu %lu %u", kind, given, (unsigned long)reply_length, (unsigned long)used, sum);
     print_digests(AXES); /* all before the axes, which no call writes */
+}
+
+static void check(void)
+{
+    size_t length = (size_t)number(2), start = UNSET, count = UNSET;
+    const uint8_t *frame = take(length);
+    uint8_t sum = UNSET;
+    uint16_t message = UNSET;
+    unsigned given = cabinet_check(frame, length, points, lent[POINTS], columns, lent[COLUMNS],
+                                   integers, lent[INTEGERS], flags, lent[FLAGS],
+                                   journal, lent[JOURNAL], used, axes, lent[AXES],
+                                   fitted, station, release, unchecked, first_integer, first_flag,
+                                   &sum, &message, &start, &count);
+    printf("C %u %u %lu %lu %u", given, (unsigned)message, (unsigned long)start, (unsigned long)count, sum);
+    print_digests(REPLY); /* all before the reply */
 }
 
 static void step_back(void)
@@ -161,13 +177,16 @@ static void find(void)
 static int play(void)
 {
     size_t named;
-    switch ((int)number(1)) {
+    int kind = (int)number(1);
+    switch (kind) {
     case 'B': board(); return 1;
     case 'X': spoil(); return 1;
     case 'U': used = (size_t)number(8); return 1;
     case 'L': named = part(); lend(named, (size_t)number(4)); return 1;
     case 'P': take_four_settings(); take_first_numbers(); return 1;
-    case 'F': answer(); return 1;
+    case 'F':
+    case 'A': answer(kind); return 1;
+    case 'C': check(); return 1;
     case 'S': step_back(); return 1;
     case 'R': find(); return 1;
     case 'E': return 0;

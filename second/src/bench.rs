@@ -4,7 +4,7 @@
 use crate::areas::{Board, Firsts, Settings, AXES, RECORD};
 use crate::digits;
 use crate::frames::{self, Found, LONGEST_REPLY};
-use crate::link::{self, UNTESTED};
+use crate::link::{self, Shown, UNTESTED};
 
 /// The bench's own settings.
 pub const SETTINGS: Settings = Settings {
@@ -44,6 +44,19 @@ impl Bench {
     pub fn hand(&mut self, frame: &[u8]) -> (u16, Vec<u8>) {
         let Bench { board, axes, settings, reply, .. } = self;
         let outcome = link::answer(frame, board, axes, *settings, reply);
+        self.sum = outcome.sum;
+        (outcome.number, self.reply[..outcome.reply_length].to_vec())
+    }
+
+    /// Checks one frame: what the panel would show.
+    pub fn check(&self, frame: &[u8]) -> Shown {
+        link::check(frame, &self.board, &self.axes, self.settings)
+    }
+
+    /// Acts on one frame; the number and the reply.
+    pub fn act(&mut self, frame: &[u8]) -> (u16, Vec<u8>) {
+        let Bench { board, axes, settings, reply, .. } = self;
+        let outcome = link::act(frame, board, axes, *settings, reply);
         self.sum = outcome.sum;
         (outcome.number, self.reply[..outcome.reply_length].to_vec())
     }

@@ -1,9 +1,9 @@
 //! The independent second program: the board of document 01 as a plain model on byte vectors.
 //!
-//! Written from document 01 (`01-scope.md`), requests a, c, f, l and n of document 02
+//! Written from document 01 (`01-scope.md`), requests a, c, f, g, l and n of document 02
 //! (`02-change-requests.md`) and document 000 (IAI's X-SEL Format B specification) alone, to judge the
-//! product. The public calls are `frames::find`, `link::answer` and `link::step_back`; they take areas
-//! of any length and never panic.
+//! product. The public calls are `frames::find`, `link::answer`, `link::check`, `link::act` and
+//! `link::step_back`; they take areas of any length and never panic.
 
 pub mod areas;
 pub mod bench;
@@ -18,4 +18,4 @@ pub mod vectors;
 
 pub use areas::Board;
 pub use frames::Found;
-pub use link::Outcome;
+pub use link::{Outcome, Shown};

@@ -1,7 +1,9 @@
-//! The two calls: answering a frame and stepping back (document 01, "Refusal numbers").
+//! The calls: answering a frame, in one call or in two, and stepping back (document 01, "Refusal
+//! numbers"; document 02, g). `looked` has the tests of a frame, and checking, acting and answering go
+//! through it.
 
 use crate::areas::{self, Area, Axis, Board, Firsts, Kind, Kinds, Run, Settings};
-use crate::digits::Rule;
+use crate::digits::{self, Rule};
 use crate::frames::{self, Sum, LONGEST_REPLY};
 use crate::journal::{self, Entry};
 use crate::messages::{self, Asked};
@@ -14,6 +16,27 @@ pub struct Outcome {
     pub reply_length: usize,
     /// What the sum test said (document 02, f): `UNTESTED` or a `sum_number`.
     pub sum: u8,
+}
+
+/// What checking shows of a frame (document 02, g): number 0 and what would be done, or the refusal.
+#[derive(Clone, Copy, Debug, PartialEq, Eq)]
+pub struct Shown {
+    /// Never 1: checking writes no reply.
+    pub number: u16,
+    /// The message ID as a number, 0x244 for 244H; 0 where the frame is refused.
+    pub message: u16,
+    /// The run that the message names; both 0 where it names none or is refused.
+    pub start: usize,
+    pub count: usize,
+    /// As an answer tells it.
+    pub sum: u8,
+}
+
+impl Shown {
+    /// A refusal shows its number and what the sum test said, and nothing that would be done.
+    pub fn refused(number: u16, sum: u8) -> Shown {
+        Shown { number, message: 0, start: 0, count: 0, sum }
+    }
 }
 
 /// An earlier test refused the call, so that the sum wasn't tested.
@@ -34,7 +57,45 @@ struct Sound {
     entries: Vec<Entry>,
 }
 
-/// Answers one frame: changes the board and writes the reply, or refuses.
+/// What a frame that passed all tests asks, and all that doing it needs.
+struct Order {
+    id: Vec<u8>,
+    asked: Asked,
+    entries: Vec<Entry>,
+    records: Vec<Axis>,
+}
+
+/// Says what would be done, or the refusal, and changes nothing.
+pub fn check(frame: &[u8], board: &Board, axes: &[u8], settings: Settings) -> Shown {
+    match looked(frame, board, axes, settings) {
+        (sum, Ok(order)) => order.shown(sum),
+        (sum, Err(number)) => Shown::refused(number, sum),
+    }
+}
+
+/// Checks again, by the same rules, and does it: changes the board and writes the reply; or refuses.
+/// 1 comes first, as it is the reply's.
+pub fn act(
+    frame: &[u8],
+    board: &mut Board,
+    axes: &[u8],
+    settings: Settings,
+    reply: &mut [u8],
+) -> Outcome {
+    if reply.len() < LONGEST_REPLY {
+        return Outcome { number: 1, reply_length: 0, sum: UNTESTED };
+    }
+    let (sum, order) = looked(frame, board, axes, settings);
+    let (number, text) = match order {
+        Ok(order) => (0, done(&order, board, settings)),
+        Err(number) if number > 100 => (number, frames::error_reply(settings.station, number)),
+        Err(number) => (number, Vec::new()),
+    };
+    reply[..text.len()].copy_from_slice(&text);
+    Outcome { number, reply_length: text.len(), sum }
+}
+
+/// Answers one frame in a single call: acting needs no check before it.
 pub fn answer(
     frame: &[u8],
     board: &mut Board,
@@ -42,26 +103,7 @@ pub fn answer(
     settings: Settings,
     reply: &mut [u8],
 ) -> Outcome {
-    let silent = |number: u16, sum: u8| Outcome { number, reply_length: 0, sum };
-    let (sound, records, rule) = match earlier_tests(frame, board, axes, settings, reply.len()) {
-        Ok(found) => found,
-        Err(number) => return silent(number, UNTESTED),
-    };
-    let said = frames::sum_test(frame, rule);
-    let sum = sum_number(said);
-    if let Err(number) = sum_and_station(frame, said, settings, rule) {
-        return silent(number, sum);
-    }
-    let Settings { fitted, station, .. } = settings;
-    let (number, text) = match messages::ask(frame, &sound.kinds, fitted, rule) {
-        Ok((id, asked)) => {
-            let content = carry_out(&asked, board, &sound.entries, &records, fitted);
-            (0, frames::normal_reply(station, &id, &content))
-        }
-        Err(number) => (number, frames::error_reply(station, number)),
-    };
-    reply[..text.len()].copy_from_slice(&text);
-    Outcome { number, reply_length: text.len(), sum }
+    act(frame, board, axes, settings, reply)
 }
 
 /// Takes the latest accepted write back; answers 0 or the refusal (2, 3, 10, 4, then 9).
@@ -78,17 +120,31 @@ pub fn step_back(board: &mut Board, firsts: Firsts) -> u16 {
     }
 }
 
-/// The tests before the sum's, whose refusals have no reply: 1 to 6, with 10 after 3 and 13 after 5.
+/// All tests of a frame but 1, in their order: what the sum test said, and the order or the refusal.
+fn looked(
+    frame: &[u8],
+    board: &Board,
+    axes: &[u8],
+    settings: Settings,
+) -> (u8, Result<Order, u16>) {
+    let (sound, records, rule) = match earlier_tests(frame, board, axes, settings) {
+        Ok(found) => found,
+        Err(number) => return (UNTESTED, Err(number)),
+    };
+    let said = frames::sum_test(frame, rule);
+    let asked = sum_and_station(frame, said, settings, rule)
+        .and_then(|()| messages::ask(frame, &sound.kinds, settings.fitted, rule));
+    let order = |(id, asked)| Order { id, asked, entries: sound.entries, records };
+    (sum_number(said), asked.map(order))
+}
+
+/// The tests before the sum's, whose refusals have no reply: 2 to 6, with 10 after 3 and 13 after 5.
 fn earlier_tests(
     frame: &[u8],
     board: &Board,
     axes: &[u8],
     settings: Settings,
-    reply_area: usize,
 ) -> Result<(Sound, Vec<Axis>, Rule), u16> {
-    if reply_area < LONGEST_REPLY {
-        return Err(1);
-    }
     let sound = area_tests(board, settings.firsts)?;
     let records = areas::records(axes).ok_or(5u16)?;
     if settings.fitted == 0 {
@@ -111,7 +167,7 @@ fn sum_and_station(frame: &[u8], said: Sum, settings: Settings, rule: Rule) -> R
     }
 }
 
-/// Tests 2, 3, 10 and 4, which both calls make.
+/// Tests 2, 3, 10 and 4, which a step back makes too.
 fn area_tests(board: &Board, firsts: Firsts) -> Result<Sound, u16> {
     let points = board.points_held().ok_or(2u16)?;
     let kinds = Kinds::of(points, firsts);
@@ -131,14 +187,24 @@ fn area_tests(board: &Board, firsts: Firsts) -> Result<Sound, u16> {
     Ok(Sound { kinds, entries })
 }
 
+impl Order {
+    /// The message, and the run that it names: of a 24BH its flag, of a query what is asked for.
+    fn shown(&self, sum: u8) -> Shown {
+        let message = digits::number(&self.id).unwrap_or(0) as u16;
+        let (start, count) = self.asked.run().map_or((0, 0), |run| (run.start, run.count));
+        Shown { number: 0, message, start, count, sum }
+    }
+}
+
+/// Does what is ordered, and answers the whole reply.
+fn done(order: &Order, board: &mut Board, settings: Settings) -> Vec<u8> {
+    let content = carry_out(order, board, settings.fitted);
+    frames::normal_reply(settings.station, &order.id, &content)
+}
+
 /// Does what is asked, all of it, and answers the reply's content.
-fn carry_out(
-    asked: &Asked,
-    board: &mut Board,
-    entries: &[Entry],
-    records: &[Axis],
-    fitted: u8,
-) -> Vec<u8> {
+fn carry_out(order: &Order, board: &mut Board, fitted: u8) -> Vec<u8> {
+    let Order { asked, entries, records, .. } = order;
     match asked {
         Asked::TestCall { text } => text.clone(),
         Asked::PointCount => replies::point_count(board),

@@ -205,7 +205,7 @@ impl Asked {
     }
 
     /// The numbers named, in the nine messages that name some.
-    fn run(&self) -> Option<Run> {
+    pub(crate) fn run(&self) -> Option<Run> {
         match self {
             Asked::PointList { run }
             | Asked::FlagQuery { run, .. }

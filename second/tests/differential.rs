@@ -9,6 +9,7 @@ use second::{Board, Outcome};
 
 mod lets_through;
 mod wrong_letters;
+mod wrong_looks;
 mod wrong_sums;
 
 fn plan(calls: usize) -> Plan {
@@ -347,7 +348,7 @@ impl Calls for Wrong {
 
 /// The calls find a difference on this board and say where.
 fn is_caught(wrong: &dyn Calls, name: &str) {
-    let Err(difference) = run(&mut Here(wrong), &plan(5_000)) else {
+    let Err(difference) = run(&mut Here(wrong), &plan(8_000)) else {
         panic!("{name} was not caught");
     };
     assert!(difference.starts_with("difference at call "), "{difference}");
@@ -381,6 +382,15 @@ fn boards_that_let_one_changed_byte_through_are_caught() {
     for wrong in lets_through::ALL {
         is_caught(&wrong, &format!("{wrong:?}"));
     }
+}
+
+#[test]
+fn boards_that_look_or_act_wrongly_are_caught() {
+    for wrong in wrong_looks::ALL {
+        is_caught(&wrong, &format!("{wrong:?}"));
+    }
+    is_caught(&wrong_looks::Tests106Before105, "106 before 105");
+    is_caught(&wrong_looks::GoesByTheCheck::default(), "an act that goes by the check");
 }
 
 #[test]

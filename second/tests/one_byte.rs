@@ -371,7 +371,12 @@ fn a_run_fails_whose_own_model_breaks_the_rule() {
         let Err(how) = run_with(&model, &mut Here(&wrong), &plan) else {
             panic!("{wrong:?} was not found");
         };
-        assert!(how.starts_with("rule of one changed byte broken at call "), "{how}");
+        // One stores where it refuses, which the rule of looking first finds too, and earlier.
+        let rule = match wrong {
+            LetsThrough::StoresWhere7Refuses => "rule of looking first broken at call ",
+            _ => "rule of one changed byte broken at call ",
+        };
+        assert!(how.starts_with(rule), "{how}");
         assert!(how.contains(" of seed 20261115\n") && how.contains("\npoints: "), "{how}");
     }
 }

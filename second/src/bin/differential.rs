@@ -24,6 +24,9 @@ fn main() -> ExitCode {
 fn compare() -> Result<ExitCode, String> {
     let words = std::env::var("PLAYER").map_err(|_| "PLAYER must be the player's command")?;
     let guard = setting("DIFFERENTIAL_GUARD", 64)? as usize;
+    if !guard.is_multiple_of(8) {
+        return Err("DIFFERENTIAL_GUARD must be a multiple of eight".to_string());
+    }
     let batch = setting("DIFFERENTIAL_BATCH", 256)? as usize;
     let plan = Plan {
         seed: setting("DIFFERENTIAL_SEED", 20_261_115)?,

@@ -1,10 +1,10 @@
-//! The three calls of `include/cabinet.h`, as the comparison makes them.
+//! The five calls of `include/cabinet.h`, as the comparison makes them.
 
 use crate::areas::{Board, Firsts, Settings};
 use crate::frames::{self, Found};
-use crate::link::{self, Outcome};
+use crate::link::{self, Outcome, Shown};
 
-/// The areas both calls may write, and the used length handed over and handed back.
+/// The areas that calls may write, and the used length handed over and handed back.
 pub struct Areas<'a> {
     pub points: &'a mut [u8],
     pub columns: &'a mut [u8],
@@ -48,6 +48,24 @@ pub trait Calls {
         reply: &mut [u8],
     ) -> Outcome;
 
+    /// What is lent may be written, so that a board which does is found. One that is wrong in something
+    /// else checks as the second program does.
+    fn check(&self, frame: &[u8], areas: &mut Areas, axes: &[u8], settings: Settings) -> Shown {
+        on_board(areas, |board| link::check(frame, board, axes, settings))
+    }
+
+    /// A board that is wrong in its answers is as wrong in its acts.
+    fn act(
+        &self,
+        frame: &[u8],
+        areas: &mut Areas,
+        axes: &[u8],
+        settings: Settings,
+        reply: &mut [u8],
+    ) -> Outcome {
+        self.answer(frame, areas, axes, settings, reply)
+    }
+
     fn step_back(&self, areas: &mut Areas, firsts: Firsts) -> u16;
 }
 
@@ -68,6 +86,17 @@ impl Calls for SecondProgram {
         reply: &mut [u8],
     ) -> Outcome {
         on_board(areas, |board| link::answer(frame, board, axes, settings, reply))
+    }
+
+    fn act(
+        &self,
+        frame: &[u8],
+        areas: &mut Areas,
+        axes: &[u8],
+        settings: Settings,
+        reply: &mut [u8],
+    ) -> Outcome {
+        on_board(areas, |board| link::act(frame, board, axes, settings, reply))
     }
 
     fn step_back(&self, areas: &mut Areas, firsts: Firsts) -> u16 {

@@ -3,7 +3,7 @@
 use super::calls::Finding;
 use crate::areas::{Board, Kinds, Settings, SLOT};
 use crate::frames;
-use crate::link::{self, Outcome};
+use crate::link::{self, Outcome, Shown};
 use std::fmt::Write;
 
 /// All that is lent to a call.
@@ -25,6 +25,8 @@ impl Lent {
 #[derive(Clone, Debug, PartialEq, Eq)]
 pub enum Call {
     Answer { frame: Vec<u8> },
+    Check { frame: Vec<u8> },
+    Act { frame: Vec<u8> },
     StepBack,
     Receive { received: Vec<u8> },
 }
@@ -32,7 +34,9 @@ pub enum Call {
 /// What the second program answered.
 #[derive(Clone, Copy, Debug, PartialEq, Eq)]
 pub enum Answer {
+    /// Of a frame answered or acted on.
     Answered(Outcome),
+    Checked(Shown),
     SteppedBack(u16),
     Received(Finding),
 }
@@ -54,7 +58,7 @@ pub fn parts<'a>(call: &'a Call, lent: &'a Lent) -> [&'a [u8]; PARTS] {
 /// The bytes a call reads and may not write.
 fn handed(call: &Call) -> &[u8] {
     match call {
-        Call::Answer { frame } => frame,
+        Call::Answer { frame } | Call::Check { frame } | Call::Act { frame } => frame,
         Call::StepBack => &[],
         Call::Receive { received } => received,
     }
@@ -70,6 +74,8 @@ pub fn second(call: &Call, lent: &mut Lent) -> Answer {
         Call::Answer { frame } => {
             Answer::Answered(link::answer(frame, board, axes, *settings, reply))
         }
+        Call::Check { frame } => Answer::Checked(link::check(frame, board, axes, *settings)),
+        Call::Act { frame } => Answer::Answered(link::act(frame, board, axes, *settings, reply)),
         Call::StepBack => Answer::SteppedBack(link::step_back(board, settings.firsts)),
         Call::Receive { received } => Answer::Received(frames::find(received).into()),
     }
@@ -80,6 +86,8 @@ pub fn dump(call: &Call, lent: &Lent) -> String {
     let Settings { fitted, station, release, unchecked, firsts } = lent.settings;
     let name = match call {
         Call::Answer { .. } => "answer",
+        Call::Check { .. } => "check",
+        Call::Act { .. } => "act",
         Call::StepBack => "step back",
         Call::Receive { .. } => "receive",
     };

@@ -2,12 +2,15 @@
 
 use super::calls::Finding;
 use super::compare::{parts, Answer, Call, Lent, NAMES, PARTS};
-use crate::link::Outcome;
+use crate::link::{Outcome, Shown};
 use std::io::{self, Read};
 use std::ops::Range;
 
 /// What stands in an out number before the call: one that isn't set is seen.
-const UNSET: u64 = 0x5555_5555;
+const UNSET: u64 = 0x5555_5555_5555_5555;
+
+/// How many out numbers are sent back for each call.
+const OUT: usize = 4;
 
 /// No area is as long.
 const LONGEST: usize = 1 << 20;
@@ -16,8 +19,9 @@ const LONGEST: usize = 1 << 20;
 pub struct Left {
     /// The number that the call returns.
     pub number: u16,
-    /// The reply's length and what the sum test said; or start, length and drop; the others unset.
-    pub out: [u64; 3],
+    /// The reply's length and what the sum test said; what the sum test said, message, start and count;
+    /// or start, length and drop; the others unset.
+    pub out: [u64; OUT],
     pub used: u64,
     pub areas: [AreaLeft; PARTS],
 }
@@ -37,11 +41,14 @@ impl Left {
     pub fn of(call: &Call, before: &Lent, after: &Lent, answer: Answer) -> Left {
         let (number, out) = match answer {
             Answer::Answered(Outcome { number, reply_length, sum }) => {
-                (number, [reply_length as u64, u64::from(sum), UNSET])
+                (number, [reply_length as u64, u64::from(sum), UNSET, UNSET])
             }
-            Answer::SteppedBack(number) => (number, [UNSET; 3]),
+            Answer::Checked(Shown { number, message, start, count, sum }) => {
+                (number, [u64::from(sum), u64::from(message), start as u64, count as u64])
+            }
+            Answer::SteppedBack(number) => (number, [UNSET; OUT]),
             Answer::Received(Finding { code, start, length, drop }) => {
-                (u16::from(code), [start as u64, length as u64, drop as u64])
+                (u16::from(code), [start as u64, length as u64, drop as u64, UNSET])
             }
         };
         let (old, new) = (parts(call, before), parts(call, after));
@@ -52,7 +59,10 @@ impl Left {
     /// The player's next one.
     pub fn read(from: &mut impl Read) -> io::Result<Left> {
         let number = read_number(from, 2)? as u16;
-        let out = [read_number(from, 8)?, read_number(from, 8)?, read_number(from, 8)?];
+        let mut out = [0; OUT];
+        for number in &mut out {
+            *number = read_number(from, 8)?;
+        }
         let used = read_number(from, 8)?;
         let mut areas = Vec::new();
         for _ in 0..PARTS {

@@ -1,4 +1,4 @@
-//! Comparing the board's archive, or anything with the same three calls, with the second program:
+//! Comparing the board's archive, or anything with the same five calls, with the second program:
 //! long drawn sequences of calls, every number and every lent byte compared after each.
 
 pub mod calls;
@@ -12,6 +12,8 @@ pub mod drawn_one_byte;
 pub mod drawn_test_calls;
 pub mod left;
 pub mod letter_places;
+pub mod look_first;
+pub mod look_places;
 pub mod one_byte;
 pub mod one_byte_places;
 pub mod places;

@@ -7,6 +7,9 @@ use crate::areas::Settings;
 use crate::frames::{Sum, TEST_CALL_FRAME};
 use crate::link::{sum_number, Outcome, UNTESTED};
 
+/// What a run says where it is broken.
+pub const RULE: &str = "rule of one changed byte";
+
 /// The parts of a frame, in their order.
 #[derive(Clone, Copy, Debug, PartialEq, Eq)]
 pub enum Part {
@@ -135,7 +138,7 @@ pub fn judged<'a>(
 fn change_of<'a>(unchanged: &'a [u8], call: &'a Call) -> Option<OneByte<'a>> {
     match call {
         Call::Answer { frame } => OneByte::of(unchanged, frame),
-        Call::StepBack | Call::Receive { .. } => None,
+        _ => None,
     }
 }
 

@@ -3,6 +3,7 @@
 use super::calls::Finding;
 use super::compare::{Answer, Call, Lent};
 use super::letter_places::{of_letters, LETTER_PLACES};
+use super::look_places::{self, of_check};
 use super::one_byte_places;
 use super::sum_places::{self, of_sum};
 use crate::areas::{Area, Board, Kinds, Run, Settings, FLAGS, INTEGER, INTEGERS, SLOT};
@@ -14,10 +15,10 @@ use crate::link::Outcome;
 /// All places a run must come by, besides numbers and messages.
 pub fn all() -> impl Iterator<Item = &'static str> {
     let of_calls = PLACES.into_iter().chain(LETTER_PLACES).chain(sum_places::all());
-    of_calls.chain(one_byte_places::all())
+    of_calls.chain(one_byte_places::all()).chain(look_places::all())
 }
 
-/// All but those of small letters, of what the sum test says and of one changed byte.
+/// All but those of small letters, of what the sum test says, of one changed byte and of looking first.
 const PLACES: [&str; 60] = [
     "true SC accepted",
     "'@@' accepted",
@@ -88,12 +89,15 @@ pub type Place = (&'static str, bool);
 pub fn reached(call: &Call, before: &Lent, after: &Lent, answer: Answer) -> Vec<&'static str> {
     let mut places = Vec::new();
     match (call, answer) {
-        (Call::Answer { frame }, Answer::Answered(outcome)) => {
+        (Call::Answer { frame } | Call::Act { frame }, Answer::Answered(outcome)) => {
             places.extend(of_areas(before, outcome.number));
             places.extend(of_letters(frame, before, outcome.number));
             places.extend(of_sum(frame, before, outcome));
             let frame = as_read(frame, before.settings.release);
             places.extend(of_frame(&frame, before, after, outcome));
+        }
+        (Call::Check { frame }, Answer::Checked(shown)) => {
+            places.extend(of_check(frame, before, shown));
         }
         (Call::StepBack, Answer::SteppedBack(number)) => {
             places.extend(of_areas(before, number));
@@ -117,7 +121,7 @@ pub fn as_read(frame: &[u8], release: u8) -> Vec<u8> {
     }
 }
 
-/// What both calls test: lengths, first numbers, entries.
+/// What frames and steps back test: lengths, first numbers, entries.
 fn of_areas(before: &Lent, number: u16) -> Vec<Place> {
     let Lent { board, settings: Settings { firsts, .. }, .. } = before;
     let (integers, flags) = (board.integers.len(), board.flags.len());
@@ -212,7 +216,7 @@ fn has_pair(bytes: &[u8]) -> bool {
 }
 
 /// The numbers that a frame of the right length names.
-fn run_of(frame: &[u8], kinds: &Kinds) -> Option<Run> {
+pub fn run_of(frame: &[u8], kinds: &Kinds) -> Option<Run> {
     let number = |from: usize, to: usize| {
         let field = frame.get(from..to).and_then(digits::number);
         field.map(|number| number as usize)

@@ -106,6 +106,8 @@ impl Line {
         self.expected.send((made.number, left)).map_err(closed)?;
         let kind = match made.call {
             Call::Answer { .. } => b'F',
+            Call::Check { .. } => b'C',
+            Call::Act { .. } => b'A',
             Call::StepBack => b'S',
             Call::Receive { .. } => b'R',
         };

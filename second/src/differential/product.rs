@@ -27,9 +27,8 @@ pub enum Difference {
     Left(usize, Box<Left>),
     /// Nothing came back from the call of this number, and why.
     Nothing(usize, String),
-    /// The second program's own answer to the call of this number breaks the rule of one changed byte
-    /// (document 02, n), and how.
-    Rule(usize, String),
+    /// The second program's own answer to the call of this number breaks this rule, and how.
+    Rule(&'static str, usize, String),
     /// All calls left what they must, but the player's end was not good.
     End(String),
 }
@@ -75,6 +74,10 @@ pub fn make_on(calls: &dyn Calls, call: &Call, lent: &mut Lent) -> Answer {
     let answer = match call {
         Call::Answer { frame } => {
             Answer::Answered(calls.answer(frame, &mut areas, axes, *settings, reply))
+        }
+        Call::Check { frame } => Answer::Checked(calls.check(frame, &mut areas, axes, *settings)),
+        Call::Act { frame } => {
+            Answer::Answered(calls.act(frame, &mut areas, axes, *settings, reply))
         }
         Call::StepBack => Answer::SteppedBack(calls.step_back(&mut areas, settings.firsts)),
         Call::Receive { received } => Answer::Received(calls.receive(received)),

@@ -1,7 +1,8 @@
 //! A run: board after board, call after call, until the planned number is made.
 
-use super::compare::{dump, parts, second, Call, Lent, Model};
+use super::compare::{dump, parts, second, Answer, Call, Lent, Model};
 use super::dice::Dice;
+use super::look_first::{self, Looked};
 use super::one_byte;
 use super::product::{made, Difference, Made, Product};
 use super::{drawn_boards, drawn_frames, drawn_line, drawn_one_byte, spoil, Tally};
@@ -52,8 +53,10 @@ fn calls(model: Model, product: &mut dyn Product, plan: &Plan) -> (Tally, Option
 /// A difference as text; its call is drawn again.
 fn explained(model: Model, difference: Difference, seed: u64) -> String {
     let (what, number) = match &difference {
-        Difference::Left(number, _) | Difference::Nothing(number, _) => ("difference", *number),
-        Difference::Rule(number, _) => ("rule of one changed byte broken", *number),
+        Difference::Left(number, _) | Difference::Nothing(number, _) => {
+            ("difference".to_string(), *number)
+        }
+        Difference::Rule(rule, number, _) => (format!("{rule} broken"), *number),
         Difference::End(why) => return format!("difference at the end: {why}"),
     };
     let mut again = Again { difference, text: String::new() };
@@ -76,7 +79,7 @@ impl Product for Again {
             Difference::Nothing(number, why) if *number == made.number => {
                 format!("nothing came back ({why}), from this call or a later one of its batch")
             }
-            Difference::Rule(number, how) if *number == made.number => how.clone(),
+            Difference::Rule(_, number, how) if *number == made.number => how.clone(),
             _ => return Ok(()),
         };
         self.text = format!("{what}\n{}", dump(made.call, made.before));
@@ -98,38 +101,83 @@ struct Run<'a> {
 }
 
 impl Run<'_> {
-    /// One call, or several steps back; what is accepted stays for the next.
+    /// One call or two, or several steps back; what is accepted stays for the next.
     fn next(&mut self, lent: &mut Lent) -> Result<(), Difference> {
-        match self.dice.roll(106) {
+        match self.dice.roll(108) {
             0..=45 => {
                 let frame = drawn_frames::good(&mut self.dice, lent);
-                self.make(Call::Answer { frame }, lent)
+                self.hand(frame, lent)
             }
             46..=48 => {
                 let frame = drawn_frames::odd_sc(&mut self.dice, lent);
-                self.make(Call::Answer { frame }, lent)
+                self.hand(frame, lent)
             }
             49..=54 => {
                 let frame = drawn_frames::odd_letters(&mut self.dice, lent);
-                self.make(Call::Answer { frame }, lent)
+                self.hand(frame, lent)
             }
             55..=68 => {
                 let frame = drawn_frames::damaged(&mut self.dice, lent);
-                self.make(Call::Answer { frame }, lent)
+                self.hand(frame, lent)
             }
             69..=74 => self.steps_back(lent),
             75..=82 => {
                 let received = drawn_line::received(&mut self.dice);
-                self.make(Call::Receive { received }, lent)
+                self.make(Call::Receive { received }, lent)?;
+                Ok(())
             }
             83..=95 => self.spoiled(lent),
             96..=101 => self.one_byte(lent),
+            102 | 103 => self.changed_between(lent),
             _ => {
                 spoil::change(&mut self.dice, lent);
                 let frame = drawn_frames::good(&mut self.dice, lent);
-                self.make(Call::Answer { frame }, lent)
+                self.hand(frame, lent)
             }
         }
+    }
+
+    /// A frame in one of four ways: answered, checked and then acted on, acted on alone, checked alone.
+    fn hand(&mut self, frame: Vec<u8>, lent: &mut Lent) -> Result<(), Difference> {
+        let call = match self.dice.roll(10) {
+            0..=5 => Call::Answer { frame },
+            6 | 7 => return self.look_first(frame, lent),
+            8 => Call::Act { frame },
+            _ => Call::Check { frame },
+        };
+        self.make(call, lent)?;
+        Ok(())
+    }
+
+    /// A frame checked and then acted on with nothing between; the rule of that is judged too.
+    fn look_first(&mut self, frame: Vec<u8>, lent: &mut Lent) -> Result<(), Difference> {
+        let before = lent.clone();
+        let checked = self.make(Call::Check { frame: frame.clone() }, lent)?;
+        let between = lent.clone();
+        let acted = self.make(Call::Act { frame: frame.clone() }, lent)?;
+        let (frame, before, between) = (&frame, &before, &between);
+        let looked = Looked { frame, before, between, after: lent, checked, acted };
+        let judged = look_first::judged(self.model, &looked);
+        let judged = judged.map_err(|how| Difference::Rule(look_first::RULE, self.made, how))?;
+        self.tally.count_looked(&judged);
+        Ok(())
+    }
+
+    /// A frame checked and then acted on, where a spoiled copy is lent to one of the two: acting goes by
+    /// what it finds and not by what was shown.
+    fn changed_between(&mut self, lent: &mut Lent) -> Result<(), Difference> {
+        let frame = drawn_frames::good(&mut self.dice, lent);
+        let (check, act) = (Call::Check { frame: frame.clone() }, Call::Act { frame });
+        let mut copy = lent.clone();
+        spoil::spoil(&mut self.dice, &mut copy);
+        let both = match self.dice.one_in(2) {
+            true => (self.make(check, lent)?, self.make(act, &mut copy)?),
+            false => (self.make(check, &mut copy)?, self.make(act, lent)?),
+        };
+        if let (Answer::Checked(shown), Answer::Answered(outcome)) = both {
+            self.tally.count_changed(shown, outcome);
+        }
+        Ok(())
     }
 
     /// One step back most often, many in a row now and then, also past the last entry.
@@ -144,17 +192,20 @@ impl Run<'_> {
         Ok(())
     }
 
-    /// A call on a spoiled copy of what is lent; the copy is thrown away.
+    /// A call, or a check and an act, on a spoiled copy of what is lent; the copy is thrown away.
     fn spoiled(&mut self, lent: &Lent) -> Result<(), Difference> {
         let mut copy = lent.clone();
         spoil::spoil(&mut self.dice, &mut copy);
-        let call = match self.dice.roll(9) {
-            0..=2 => Call::StepBack,
-            3 | 4 => Call::Answer { frame: drawn_frames::damaged(&mut self.dice, lent) },
-            5 => Call::Answer { frame: drawn_frames::odd_sc(&mut self.dice, lent) },
-            _ => Call::Answer { frame: drawn_frames::good(&mut self.dice, lent) },
+        let frame = match self.dice.roll(9) {
+            0..=2 => {
+                self.make(Call::StepBack, &mut copy)?;
+                return Ok(());
+            }
+            3 | 4 => drawn_frames::damaged(&mut self.dice, lent),
+            5 => drawn_frames::odd_sc(&mut self.dice, lent),
+            _ => drawn_frames::good(&mut self.dice, lent),
         };
-        self.make(call, &mut copy)
+        self.hand(frame, &mut copy)
     }
 
     /// A frame with a true SC of which one byte is changed, now and then on a spoiled copy.
@@ -164,22 +215,25 @@ impl Run<'_> {
         if self.dice.one_in(12) {
             let mut copy = lent.clone();
             spoil::spoil(&mut self.dice, &mut copy);
-            return self.make_from(Some(&unchanged), call, &mut copy);
+            self.make_from(Some(&unchanged), call, &mut copy)?;
+        } else {
+            self.make_from(Some(&unchanged), call, lent)?;
         }
-        self.make_from(Some(&unchanged), call, lent)
+        Ok(())
     }
 
-    fn make(&mut self, call: Call, lent: &mut Lent) -> Result<(), Difference> {
+    fn make(&mut self, call: Call, lent: &mut Lent) -> Result<Answer, Difference> {
         self.make_from(None, call, lent)
     }
 
-    /// One call; where its frame was made from a frame with a true SC, the rule of that is judged too.
+    /// One call, and what the second program answered; where its frame was made from a frame with a true
+    /// SC, the rule of that is judged too.
     fn make_from(
         &mut self,
         unchanged: Option<&[u8]>,
         call: Call,
         lent: &mut Lent,
-    ) -> Result<(), Difference> {
+    ) -> Result<Answer, Difference> {
         let before = lent.clone();
         self.made += 1;
         if self.made == self.plan.show {
@@ -190,9 +244,9 @@ impl Run<'_> {
         self.tally.count(&call, &before, made.after, made.answer);
         if let Some(unchanged) = unchanged {
             let judged = one_byte::judged(self.model, unchanged, &made);
-            let judged = judged.map_err(|how| Difference::Rule(self.made, how))?;
+            let judged = judged.map_err(|how| Difference::Rule(one_byte::RULE, self.made, how))?;
             judged.iter().for_each(|judged| self.tally.count_one_byte(judged));
         }
-        Ok(())
+        Ok(made.answer)
     }
 }

@@ -3,6 +3,7 @@
 mod drawn_cases;
 mod fixed_cases;
 mod journal_cases;
+mod look_cases;
 mod one_byte_cases;
 mod play;
 mod refusal_cases;
@@ -29,6 +30,7 @@ pub fn stdin() -> Vec<u8> {
     release_cases::add(&mut script);
     sum_cases::add(&mut script);
     one_byte_cases::add(&mut script);
+    look_cases::add(&mut script);
     drawn_cases::add(&mut script);
     script.end()
 }
@@ -53,15 +55,18 @@ mod tests {
     #[test]
     fn the_vectors_are_small_and_reach_every_number() {
         let (stdin, stdout) = both();
-        // The product's program reads at most 131,072 bytes.
-        assert!(stdin.len() < 131_072, "{} bytes", stdin.len());
+        // The product's program reads at most 163,840 bytes.
+        assert!(stdin.len() < 163_840, "{} bytes", stdin.len());
         let lines = stdout.lines().count();
-        assert!((300..=2_000).contains(&lines), "{lines} lines");
+        assert!((300..=2_500).contains(&lines), "{lines} lines");
         let numbers = |letter: &str| -> BTreeSet<u16> {
             let lines = stdout.lines().filter_map(|line| line.strip_prefix(letter));
             lines.filter_map(|line| line.split(' ').next()?.parse().ok()).collect()
         };
-        assert_eq!(numbers("F "), (0..=8).chain([10, 12, 13]).chain(101..=108).collect());
+        let all: BTreeSet<u16> = (0..=8).chain([10, 12, 13]).chain(101..=108).collect();
+        assert_eq!(numbers("F "), all);
+        assert_eq!(numbers("A "), all);
+        assert_eq!(numbers("C "), all.into_iter().filter(|&number| number != 1).collect());
         assert_eq!(numbers("S "), BTreeSet::from([0, 2, 3, 4, 9, 10]));
         assert_eq!(numbers("R "), BTreeSet::from([0, 1, 2, 3]));
     }

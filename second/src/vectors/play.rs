@@ -5,13 +5,16 @@ use crate::areas::{Board, Firsts, Settings};
 use crate::bench::SETTINGS;
 use crate::differential::Finding;
 use crate::frames;
-use crate::link::{self, Outcome};
+use crate::link::{self, Outcome, Shown};
 use std::fmt::Write;
 
 /// How many areas there are, and the buffers they are lent from, in the order of `Part`.
 const PARTS: usize = 7;
 const BUFFERS: [usize; PARTS] = [60_000, 720, 420, 320, 65_600, 1_100, 80];
 const PRIME: u64 = 4_294_967_291;
+
+/// A call that may change the board and write a reply.
+type Done = fn(&[u8], &mut Board, &[u8], Settings, &mut [u8]) -> Outcome;
 
 /// The text that these operations write. They are our own: a wrong one is a panic.
 pub fn play(stdin: &[u8]) -> String {
@@ -51,6 +54,8 @@ impl Player<'_> {
             b'L' => self.lend(),
             b'P' => self.change_settings(),
             b'F' => self.answer(),
+            b'C' => self.check(),
+            b'A' => self.act(),
             b'S' => self.step_back(),
             b'R' => self.find(),
             b'E' => return false,
@@ -138,17 +143,37 @@ impl Player<'_> {
     }
 
     fn answer(&mut self) {
-        let length = self.number(2) as usize;
-        let frame = self.take(length);
+        self.done('F', link::answer);
+    }
+
+    fn act(&mut self) {
+        self.done('A', link::act);
+    }
+
+    /// A frame answered or acted on, and its line, headed by this letter.
+    fn done(&mut self, letter: char, call: Done) {
+        let frame = self.frame();
         let mut board = self.board_lent();
         let mut reply = self.lent(Part::Reply).to_vec();
-        let axes = self.lent(Part::Axes);
-        let outcome = link::answer(&frame, &mut board, axes, self.settings, &mut reply);
+        let outcome = call(&frame, &mut board, self.lent(Part::Axes), self.settings, &mut reply);
         self.lay_board(&board);
         self.lay(Part::Reply, &reply);
         let Outcome { number, reply_length, sum } = outcome;
         let digests = [self.kept(), self.digest(Part::Reply)].concat();
-        self.write(format!("F {number} {reply_length} {} {sum}{digests}", self.used));
+        self.write(format!("{letter} {number} {reply_length} {} {sum}{digests}", self.used));
+    }
+
+    fn check(&mut self) {
+        let frame = self.frame();
+        let board = self.board_lent();
+        let shown = link::check(&frame, &board, self.lent(Part::Axes), self.settings);
+        let Shown { number, message, start, count, sum } = shown;
+        self.write(format!("C {number} {message} {start} {count} {sum}{}", self.kept()));
+    }
+
+    fn frame(&mut self) -> Vec<u8> {
+        let length = self.number(2) as usize;
+        self.take(length)
     }
 
     fn step_back(&mut self) {
@@ -204,8 +229,8 @@ mod tests {
         assert_eq!(digest(&[0xFF; 7]), by_hand);
     }
 
-    /// The message of each accepted frame of these operations.
-    fn accepted(stdin: &[u8]) -> Vec<String> {
+    /// The message of each frame of these operations that this operation accepts.
+    fn accepted(stdin: &[u8], letter: char) -> Vec<String> {
         let mut player = Player::new(stdin);
         let mut messages = Vec::new();
         loop {
@@ -214,7 +239,7 @@ mod tests {
                 return messages;
             }
             let last = player.text.lines().next_back().unwrap_or("");
-            if operation[0] == b'F' && last.starts_with("F 0 ") {
+            if operation[0] == letter as u8 && last.starts_with(&format!("{letter} 0 ")) {
                 messages.push(String::from_utf8_lossy(&operation[6..9]).into_owned());
             }
         }
@@ -222,15 +247,26 @@ mod tests {
 
     #[test]
     fn the_vectors_accept_each_message_often() {
-        let accepted = accepted(&super::super::stdin());
-        for message in crate::differential::tally::MESSAGES {
-            let count = accepted.iter().filter(|&accepted| accepted == message).count();
-            assert!(count >= 5, "{message}: {count}");
+        let stdin = super::super::stdin();
+        let accepted = |letter: char| accepted(&stdin, letter);
+        for (letter, least) in [('F', 5), ('C', 2), ('A', 2)] {
+            let accepted = accepted(letter);
+            for message in crate::differential::tally::MESSAGES {
+                let count = accepted.iter().filter(|&accepted| accepted == message).count();
+                assert!(count >= least, "{letter} {message}: {count}");
+            }
         }
+        let accepted = accepted('F');
         for message in ["20d", "20e", "24b", "24c", "24e"] {
             let count = accepted.iter().filter(|&accepted| accepted == message).count();
             assert!(count >= 2, "{message}: {count}");
         }
+    }
+
+    /// A field of a line: this one where it begins with this letter, else the other.
+    fn field(line: &str, letter: char, at: usize, other: usize) -> &str {
+        let at = if line.starts_with(letter) { at } else { other };
+        line.split(' ').nth(at).unwrap_or("")
     }
 
     #[test]
@@ -244,12 +280,15 @@ mod tests {
             b"P\x01\x98\x02\x00\x0F\x9D\x02\x58SP\x01\x98\x01\x01\x00\xC8\x02\x58",
             b"U\x00\x00\x00\x00\x00\x00\x00\x01S",
             b"L\x00\x00\x00\x00\x00X\x02\x00\x00\x00\x00\x07S",
-            b"R\x00\x03!\r\nE",
+            b"R\x00\x03!\r\n",
+            b"B\x00\x01\xFF\x99\x01\x01\x00\x00\x02\x1C\x00\xC8\x02\x58",
+            b"C\x00\x10!99246001001@@\r\nA\x00\x10!99246001001@@\r\n",
+            b"C\x00\x10!99246001002@@\r\nA\x00\x10!99246001002@@\r\nE",
         ]
         .concat();
         let text = play(&script);
         let lines: Vec<&str> = text.lines().collect();
-        assert_eq!(lines.len(), 8);
+        assert_eq!(lines.len(), 12);
         assert!(lines[0].starts_with("F 0 13 0 2 "));
         assert_eq!(lines[0].split(' ').count(), 11);
         assert!(lines[1].starts_with("F 8 0 0 1 "));
@@ -262,6 +301,16 @@ mod tests {
         assert!(lines[6].starts_with("S 2 1 00000000 "));
         assert_ne!(lines[5].split(' ').nth(5), lines[6].split(' ').nth(5));
         assert_eq!(lines[7], "R 0 0 3 3");
+        assert!(lines[8].starts_with("C 0 582 1 1 2 "));
+        assert_eq!(lines[8].split(' ').count(), 11);
+        assert!(lines[9].starts_with("A 0 10 45 2 "));
+        assert_eq!(lines[9].split(' ').count(), 11);
+        assert!(lines[10].starts_with("C 106 0 0 0 2 "));
+        assert!(lines[11].starts_with("A 106 10 45 2 "));
+        // The journal's digest: another after the act alone.
+        let journals: Vec<&str> = lines[8..].iter().map(|line| field(line, 'C', 10, 9)).collect();
+        assert_ne!(journals[0], journals[1]);
+        assert_eq!(journals[1..], [journals[1]; 3]);
         assert!(text.ends_with('\n'));
     }
 }

@@ -95,6 +95,34 @@ impl Script {
         }
     }
 
+    /// Checks these bytes.
+    pub fn check(&mut self, frame: &[u8]) {
+        self.long(b'C', frame);
+    }
+
+    /// Acts on these bytes.
+    pub fn act(&mut self, frame: &[u8]) {
+        self.long(b'A', frame);
+    }
+
+    /// Checks these bytes and then acts on them.
+    pub fn look(&mut self, frame: &[u8]) {
+        self.check(frame);
+        self.act(frame);
+    }
+
+    /// Checks the command with this message ID and content and then acts on it.
+    pub fn look_at(&mut self, id_and_content: &str) {
+        let frame = command(self.station, id_and_content.as_bytes());
+        self.look(&frame);
+    }
+
+    pub fn look_at_all(&mut self, several: &[&str]) {
+        for id_and_content in several {
+            self.look_at(id_and_content);
+        }
+    }
+
     /// Answers a line of the documents; CR LF is added.
     pub fn line(&mut self, line: &str) {
         self.frame(&[line.as_bytes(), b"\r\n"].concat());

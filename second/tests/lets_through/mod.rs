@@ -4,7 +4,7 @@
 use second::areas::{Firsts, Settings};
 use second::differential::{Areas, Calls, Finding, SecondProgram};
 use second::frames::{closed, has_shape, sc, sum};
-use second::Outcome;
+use second::{Outcome, Shown};
 
 /// What such a board does otherwise than the second program.
 #[derive(Clone, Copy, Debug, PartialEq)]
@@ -162,6 +162,14 @@ impl Calls for LetsThrough {
             reply[..10].copy_from_slice(&closed(b"&99007".to_vec()));
         }
         outcome
+    }
+
+    /// By the same rules as it answers.
+    fn check(&self, frame: &[u8], areas: &mut Areas, axes: &[u8], settings: Settings) -> Shown {
+        let taken = self.takes(frame, settings.release);
+        let shown = SecondProgram.check(&taken, areas, axes, settings);
+        let refused = self.refuses(frame, settings, shown.number);
+        refused.map_or(shown, |number| Shown::refused(number, WRONG))
     }
 
     fn step_back(&self, areas: &mut Areas, firsts: Firsts) -> u16 {
