@@ -9,6 +9,7 @@ use Rattle.demands.proofs.TestCalls.{test-calls}
 use Rattle.demands.proofs.Releases.{releases, same-answer}
 use Rattle.demands.proofs.SwitchedOff.{switched-off, contract-as-before}
 use Rattle.demands.proofs.OneByte.{one-byte}
+use Rattle.demands.proofs.LookFirst.{look-first, contracts-as-one, cabinet-looks}
 
 pub demands : Demands
 demands =
@@ -36,6 +37,9 @@ demands =
             switched-off = switched-off;
             contract-as-before = contract-as-before;
             one-byte = one-byte;
+            look-first = look-first;
+            contracts-as-one = contracts-as-one;
+            cabinet-looks = cabinet-looks;
           };
       demand3 = every-history;
     }

@@ -26,4 +26,5 @@ pub mod Releases
 pub mod SwitchedOff
 pub mod Changed
 pub mod OneByte
+pub mod LookFirst
 pub mod Demands

@@ -21,6 +21,7 @@ use Rattle.messages.specs.declared.Asked.the-variants.{Refused, Order}
 use Rattle.messages.specs.Rows.{Row, firstOf}
 use Rattle.table.specs.Table.{messageOf}
 use Rattle.messages.specs.Asked.{askedRows, numberGiven}
+use Rattle.messages.proofs.Judged.{asked-from}
 use Rattle.calls.specs.declared.Told.{Told}
 use Rattle.calls.specs.declared.Told.the-variants.{Untested}
 use Rattle.calls.specs.Calls.{Areas, Call, Outcome, lengthsOf}
@@ -101,19 +102,10 @@ silent-low c =
     number-given (λ (k : ℕ). k ≤ 13) (silent c) (omega arith)
     (omega arith, (omega arith, (omega arith, (omega arith, (omega arith, (omega arith, (omega arith, (omega arith, (omega arith, (omega arith, (omega arith, tt)))))))))))
 
-high : (held : Held) (fitted release : ℕ) (n : Named) (content : List ℕ) → (firstOf (askedRows held fitted release n content) ≡ 0 → ⊥)
-    → 101 ≤ firstOf (askedRows held fitted release n content)
-unfolding askedRows
-high held fitted release Unknown content k = omega arith
-high held fitted release (Known m) content k =
-    number-given (λ (k : ℕ). (k ≡ 0 → ⊥) → 101 ≤ k) (askedRows held fitted release (Known m) content) (λ n. absurd (n refl))
-    (λ _. omega arith, (λ _. omega arith, (λ _. omega arith, (λ _. omega arith, (λ _. omega arith, (λ _. omega arith, (λ _. omega arith, tt)))))))
-    k
-
 pub asked-high : (c : Call) → (numberGiven (asked c) ≡ 0 → ⊥) → 101 ≤ numberGiven (asked c)
 asked-high c n =
     rw (asked-number c)
-    (high (held c) (c .sent .settings .fitted) (c .sent .settings .release) (messageOf (c .sent .settings .release) (c .sent .frame)) (contentIn (c .sent .frame)) (λ e. n (asked-number c ∙ e)))
+    (asked-from (held c) (c .sent .settings .fitted) (c .sent .settings .release) (messageOf (c .sent .settings .release) (c .sent .frame)) (contentIn (c .sent .frame)) (λ e. n (asked-number c ∙ e)))
 
 -- each row's number is one of the list
 abbrev Listed : List ℕ → ℕ → Type 0

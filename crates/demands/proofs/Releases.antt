@@ -199,7 +199,7 @@ same-under-two c n = same-answer-there c n
 pub same-answer : SameAnswer
 same-answer c r r′ a a′ reply reply′ x y n =
     let e = same-under-two c (sym (x .number-is) ∙ n) in
-    one-answer (under 1 c) r′ r a′ a reply′ reply
+    one-answer answerOf (under 1 c) r′ r a′ a reply′ reply
     (record {
       number-is = y .number-is ∙ ap (λ (o : Outcome). o .number) e;
       length-is = y .length-is ∙ ap (λ (o : Outcome). length (o .text)) e;

@@ -28,6 +28,7 @@ use Rattle.link.proofs.Carrying.{fine, areas-long}
 use Rattle.demands.specs.History.{ours}
 use Rattle.demands.specs.Reading.{content, startOf, countOf}
 use Rattle.demands.specs.Survive.{Outside, OnlyNamed}
+use Rattle.demands.specs.LookFirst.{kindNamed, bytesSaid}
 use Rattle.demands.proofs.Asking.{Took, Open}
 use Rattle.demands.proofs.Journals.{journal-again}
 
@@ -39,12 +40,9 @@ module _ (k : Kind) (start count : ℕ) (bytes area : List ℕ) (h : holds k sta
       let w = run k start count bytes area e (omega arith) in
       record { before-it = w .outside-before; behind-it = λ i b. w .outside-behind i (omega arith); as-long = w .as-long }
 
--- the kind of the things that a message names, and the bytes that it stores
-abbrev pub kindNamed : Message → Call → Kind
-kindNamed m c = kindOf (held c) (m .tag)
-
+-- the bytes that it stores
 abbrev pub newIn : Message → Call → List ℕ
-newIn m c = newBytes (m .does) (kindNamed m c .unit) (countOf m (c .sent)) (rest (c .sent) m)
+newIn m c = bytesSaid m (countOf m (c .sent)) c
 
 -- what an accepted write leaves
 pub record Wrote (m : Message) (c : Call) : Type 0 where

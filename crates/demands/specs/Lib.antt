@@ -8,4 +8,5 @@ pub mod TestCalls
 pub mod Releases
 pub mod SwitchedOff
 pub mod OneByte
+pub mod LookFirst
 pub mod Demands

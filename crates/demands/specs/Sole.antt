@@ -4,17 +4,27 @@ use mathlib.Core.Path.{_≡_}
 use mathlib.Core.List.{List}
 use Rattle.finder.specs.declared.Found.{Found}
 use Rattle.finder.specs.Find.{findIn, partOf}
-use Rattle.calls.specs.Calls.{Areas, Call}
+use Rattle.messages.specs.declared.Asked.{Asked}
+use Rattle.messages.specs.declared.Shown.{Shown}
+use Rattle.messages.specs.Shown.{shownOf}
+use Rattle.calls.specs.Calls.{Areas, Call, Outcome}
 use Rattle.link.specs.declared.Answered.{Answered}
+use Rattle.link.specs.declared.Checked.{Checked}
 use Rattle.link.specs.declared.Back.{Back}
-use Rattle.link.specs.Contract.{Answers, StepsBack}
-use Rattle.board.specs.Calls.{Receives, CabinetAnswers, backedOf}
+use Rattle.link.specs.Check.{checkOf}
+use Rattle.link.specs.Contract.{Gives, StepsBack}
+use Rattle.board.specs.Calls.{Receives, CabinetGives, CabinetChecks, backedOf}
 
--- `answer` and `answer_lent`: every number, what is told of the sum, and every lent byte
+-- `answer`, `answer_lent` and `act`, whatever outcome a contract cites: every number, what is told of the sum, and every lent byte
 abbrev pub OneAnswer : Type 0
 OneAnswer =
-    (c : Call) (r r′ : Answered) (a a′ : Areas) (reply reply′ : List ℕ)
-    → Answers c r a reply → Answers c r′ a′ reply′ → (r ≡ r′) × (a ≡ a′) × (reply ≡ reply′)
+    (outcomeOf : Call → Outcome) (c : Call) (r r′ : Answered) (a a′ : Areas) (reply reply′ : List ℕ)
+    → Gives outcomeOf c r a reply → Gives outcomeOf c r′ a′ reply′ → (r ≡ r′) × (a ≡ a′) × (reply ≡ reply′)
+
+-- `check`, and what `show` makes of what it answers
+pub record OneCheck (c : Call) : Type 0 where
+  pub checked : (r r′ : Checked) → r ≡ checkOf c → r′ ≡ checkOf c → r ≡ r′
+  pub shown : (asked : Asked) (r r′ : Shown) → r ≡ shownOf asked → r′ ≡ shownOf asked → r ≡ r′
 
 -- `step_back`
 abbrev pub OneStepBack : Type 0
@@ -32,12 +42,18 @@ OneReceive =
     (f : Found) (code code′ start start′ length length′ drop drop′ : ℕ) → Receives f code start length drop → Receives f code′ start′ length′ drop′
     → (code ≡ code′) × (start ≡ start′) × (length ≡ length′) × (drop ≡ drop′)
 
--- `cabinet_answer`: its number, `*reply_length`, `*used`, `*sum`, and every lent byte
+-- `cabinet_answer` and `cabinet_act`: the number, `*reply_length`, `*used`, `*sum`, and every lent byte
 abbrev pub OneCabinetAnswer : Type 0
 OneCabinetAnswer =
-    (c : Call) (n n′ l l′ u u′ s s′ : ℕ) (a a′ : Areas) (reply reply′ : List ℕ)
-    → CabinetAnswers c n l u s a reply → CabinetAnswers c n′ l′ u′ s′ a′ reply′
+    (outcomeOf : Call → Outcome) (c : Call) (n n′ l l′ u u′ s s′ : ℕ) (a a′ : Areas) (reply reply′ : List ℕ)
+    → CabinetGives outcomeOf c n l u s a reply → CabinetGives outcomeOf c n′ l′ u′ s′ a′ reply′
     → (n ≡ n′) × (l ≡ l′) × (u ≡ u′) × (s ≡ s′) × (a ≡ a′) × (reply ≡ reply′)
+
+-- `cabinet_check`: its number, `*sum`, `*message`, `*start` and `*count`
+abbrev pub OneCabinetCheck : Type 0
+OneCabinetCheck =
+    (c : Call) (n n′ s s′ m m′ start start′ count count′ : ℕ) → CabinetChecks c n s m start count → CabinetChecks c n′ s′ m′ start′ count′
+    → (n ≡ n′) × (s ≡ s′) × (m ≡ m′) × (start ≡ start′) × (count ≡ count′)
 
 -- `cabinet_step_back`: its number, `*used`, and every lent byte
 abbrev pub OneCabinetBack : Type 0

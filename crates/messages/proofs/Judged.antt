@@ -124,17 +124,22 @@ picked-from false false false false false false true n = omega arith
 picked-from false false false false false false false n = absurd (n refl)
 
 -- and each is from 101 on: it has an error reply
+pub asked-from : (held : Held) (fitted release : ℕ) (n : Named) (content : List ℕ) → (firstOf (askedRows held fitted release n content) ≡ 0 → ⊥)
+    → 101 ≤ firstOf (askedRows held fitted release n content)
+unfolding askedRows
+asked-from held fitted release Unknown content z = omega arith
+asked-from held fitted release (Known m) content z =
+    picked-from (notDigits release m content) (wrongLength held m content) (wrongProgram m content) (countZero m content) (notHeld held m content)
+    (wrongPattern fitted m content)
+    (wrongType m content)
+    z
+
 pub refused-from : (held : Held) (fitted release : ℕ) (frame : List ℕ) (k : ℕ) → askedOf held fitted release frame ≡ Refused k → 101 ≤ k
-unfolding askedOf askedRows
+unfolding askedOf
 refused-from held fitted release frame k e =
     let g = sym (number-judged held fitted release (messageOf release frame) (contentIn frame)) ∙ ap numberGiven e in
-    subst (λ (n : ℕ). 101 ≤ n) g (go (messageOf release frame) (λ z. refused-some held fitted release frame (e ∙ ap Refused (sym g ∙ z))))
-  where
-    go : (n : Named) → (firstOf (askedRows held fitted release n (contentIn frame)) ≡ 0 → ⊥) → 101 ≤ firstOf (askedRows held fitted release n (contentIn frame))
-    go Unknown z = omega arith
-    go (Known m) z =
-        let s = contentIn frame in
-        picked-from (notDigits release m s) (wrongLength held m s) (wrongProgram m s) (countZero m s) (notHeld held m s) (wrongPattern fitted m s) (wrongType m s) z
+    subst (λ (n : ℕ). 101 ≤ n) g
+    (asked-from held fitted release (messageOf release frame) (contentIn frame) (λ z. refused-some held fitted release frame (e ∙ ap Refused (sym g ∙ z))))
 
 -- what an order tells of the message and the content
 pub record Told (held : Held) (fitted release : ℕ) (n : Named) (content : List ℕ) (m : Message) (start count : ℕ) : Type 0 where
