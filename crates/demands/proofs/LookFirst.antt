@@ -1,13 +1,12 @@
 -- Looking before storing, from the check and the act.
 use Prim.Native.Nat.{ℕ, _≤_}
-use mathlib.Core.Path.{_≡_, refl, sym, ap, ap₂, _∙_, subst}
+use mathlib.Core.Path.{_≡_, refl, sym, ap, _∙_, subst}
 use mathlib.Core.Bool.{Bool, true, false, cond}
-use mathlib.Core.Logic.{_⊎_, inl, inr}
-use mathlib.Core.List.{List, _++_}
+use mathlib.Core.List.{_++_}
 use native.Mathlib.Omega.{arith}
 use lib.ListN.{length}
 use borrow.Author.Tests.{le-leb, le-ltb}
-use Rattle.kinds.specs.Kinds.{kindOf, runOf}
+use Rattle.kinds.specs.Kinds.{runOf}
 use Rattle.kinds.proofs.Known.{room}
 use Rattle.kinds.proofs.Promised.{run}
 use Rattle.table.specs.declared.Action.{Action}
@@ -17,8 +16,7 @@ use Rattle.table.specs.declared.Named.the-variants.{Known}
 use Rattle.messages.specs.declared.Asked.{Asked}
 use Rattle.messages.specs.declared.Asked.the-variants.{Refused, Order}
 use Rattle.messages.specs.declared.Shown.{Shown}
-use Rattle.messages.specs.Rows.{firstOf}
-use Rattle.messages.specs.Asked.{askedOf, numberGiven}
+use Rattle.messages.specs.Asked.{numberGiven}
 use Rattle.messages.specs.Shown.{namesRun, shownOf}
 use Rattle.messages.proofs.Judged.{refused-from}
 use Rattle.messages.proofs.Promised.{judgement}
@@ -33,7 +31,7 @@ use Rattle.link.specs.Answer.{held, asked, answerOf}
 use Rattle.link.specs.Check.{checkOf, actOf}
 use Rattle.link.proofs.Answering.{accepted}
 use Rattle.link.proofs.Carrying.{fine, areas-long}
-use Rattle.link.proofs.Checking.{checked-by, told-checked, without-reply, short-act, long-act, same-act, same-gives}
+use Rattle.link.proofs.Checking.{checked-by, without-reply, short-act, long-act, same-act, same-gives}
 use Rattle.board.proofs.Answered.{same-cabinet}
 use Rattle.demands.specs.History.{messageBy}
 use Rattle.demands.specs.Reading.{startOf, countOf}
@@ -184,9 +182,9 @@ unfolding checkOf checkSilentOf
 look-first =
     record {
       as-one = same-act;
-      halves = halves;
+      same-refusals = halves;
       any-reply-area = λ c reply. refl;
-      shown-is-done = shown-is-done;
+      does-what-is-shown = shown-is-done;
     }
 
 pub contracts-as-one : ContractsAsOne

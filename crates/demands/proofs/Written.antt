@@ -8,7 +8,7 @@ use lib.Dec.{eqb}
 use lib.ListN.{length}
 use borrow.Author.Tests.{eqb-true, eqb-false}
 use Rattle.kinds.specs.declared.Kind.{Kind}
-use Rattle.kinds.specs.Kinds.{pointsTag, columnsTag, integersTag, flagsTag, kindOf, holds, sizeOf, put}
+use Rattle.kinds.specs.Kinds.{pointsTag, columnsTag, integersTag, flagsTag, holds, sizeOf, put}
 use Rattle.kinds.proofs.Known.{tag-of, own-kind, room, run-length}
 use Rattle.kinds.proofs.Promised.{run}
 use Rattle.journal.specs.Journal.{entryFor}
@@ -21,7 +21,7 @@ use Rattle.calls.proofs.Tagged.{put-own, put-other}
 use Rattle.kinds.specs.declared.Lengths.{Lengths}
 use Rattle.refusals.specs.Refusals.{journalFits}
 use Rattle.refusals.proofs.Rows.{AreasPass, call-passed}
-use Rattle.orders.specs.Orders.{rest, writes, newBytes}
+use Rattle.orders.specs.Orders.{writes}
 use Rattle.link.specs.Answer.{held, answerOf}
 use Rattle.orders.proofs.Judging.{Writable, writable}
 use Rattle.link.proofs.Carrying.{fine, areas-long}

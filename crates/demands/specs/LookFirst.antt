@@ -83,14 +83,26 @@ pub record ShownIsDone (c : Call) (w : Shown) (o : Outcome) : Type 0 where
   pub no-other : Outside (kindNamed message c) (w .start) (w .count) (areaIn (message .tag) (c .areas)) (areaIn (message .tag) (o .areas))
   pub no-other-kind : (tag : ℕ) → (tag ≡ message .tag → ⊥) → areaIn tag (o .areas) ≡ areaIn tag (c .areas)
 
+-- "Checking and then doing, with nothing between, equals the old single call": number, reply, every lent byte, what is kept and the sum told
+abbrev pub AsOne : Panel → Type 0
+AsOne board = (c : Call) → board .act c ≡ board .answer c
+
+abbrev pub SameRefusals : Panel → Type 0
+SameRefusals board = (c : Call) → Halves c (board .check c) (board .act c)
+
+-- a check looks at no reply area
+abbrev pub AnyReplyArea : Panel → Type 0
+AnyReplyArea board = (c : Call) (reply : List ℕ) → board .check (replyingIn reply c) ≡ board .check c
+
+abbrev pub DoesWhatIsShown : Panel → Type 0
+DoesWhatIsShown board =
+    (c : Call) → board .check c .shown .number ≡ 0 → 1024 ≤ length (c .sent .reply) → ShownIsDone c (board .check c .shown) (board .act c)
+
 pub record LookFirst (board : Panel) : Type 0 where
-  -- "Checking and then doing, with nothing between, equals the old single call": number, reply, every lent byte, what is kept and the sum told
-  pub as-one : (c : Call) → board .act c ≡ board .answer c
-  pub halves : (c : Call) → Halves c (board .check c) (board .act c)
-  -- a check looks at no reply area
-  pub any-reply-area : (c : Call) (reply : List ℕ) → board .check (replyingIn reply c) ≡ board .check c
-  pub shown-is-done :
-      (c : Call) → board .check c .shown .number ≡ 0 → 1024 ≤ length (c .sent .reply) → ShownIsDone c (board .check c .shown) (board .act c)
+  pub as-one : AsOne board
+  pub same-refusals : SameRefusals board
+  pub any-reply-area : AnyReplyArea board
+  pub does-what-is-shown : DoesWhatIsShown board
 
 -- so for the contracts of `act` and `answer`, and for the C calls: every number and every lent byte is the same, whichever of the two is called
 abbrev pub ContractsAsOne : Type 0

@@ -6,13 +6,12 @@ use mathlib.Core.List.{List, [], _++_}
 use native.Mathlib.Omega.{arith}
 use lib.Dec.{eqb}
 use lib.ListN.{length}
-use borrow.Author.Tests.{eq-eqb, ne-eqb, eqb-true, eqb-false, lt-ltb, le-ltb}
+use borrow.Author.Tests.{ne-eqb, eqb-true, eqb-false, lt-ltb, le-ltb}
 use Rattle.digits.specs.Laid.{laid}
 use Rattle.digits.proofs.Laid.{laid-nothing}
 use Rattle.frames.specs.Frame.{errorOf}
 use Rattle.kinds.specs.Kinds.{Sound}
 use Rattle.messages.specs.declared.Asked.{Asked}
-use Rattle.messages.specs.declared.Asked.the-variants as asks
 use Rattle.messages.specs.declared.Asked.the-variants.{Refused, Order}
 use Rattle.messages.specs.Rows.{firstOf}
 use Rattle.messages.specs.Asked.{numberGiven}
@@ -21,8 +20,8 @@ use Rattle.calls.specs.declared.Kept.{Kept}
 use Rattle.calls.specs.declared.Told.{Told}
 use Rattle.calls.specs.declared.Told.the-variants.{Untested}
 use Rattle.calls.specs.Calls.{Areas, Call, Outcome, callOf, lengthsOf}
-use Rattle.refusals.specs.Refusals.{tooShort, checkRows, lateRows, earlyRows, silentOf, toldAfter, toldOf, early, checkEarly, checkSilentOf, checkToldOf}
-use Rattle.refusals.proofs.Rows.{Passed, passed, checked-rows, told-untested}
+use Rattle.refusals.specs.Refusals.{tooShort, lateRows, earlyRows, silentOf, toldAfter, toldOf, early, checkEarly, checkSilentOf, checkToldOf}
+use Rattle.refusals.proofs.Rows.{passed, checked-rows, told-untested}
 use Rattle.refusals.proofs.Tested.{shaped-long, sound}
 use Rattle.orders.specs.declared.Order as order
 use Rattle.link.specs.declared.Answered.{Answered}

@@ -1,5 +1,4 @@
 -- Document 02, request g: what a panel is shown of a judgement, "what would be done or the refusal".
-use Prim.Native.Nat.{ℕ}
 use mathlib.Core.Bool.{Bool, cond}
 use lib.Dec.{leb}
 use Rattle.table.specs.declared.Message.{Message}

@@ -7,7 +7,7 @@ use mathlib.Core.List.{List, _++_}
 use native.Mathlib.Omega.{arith}
 use lib.Dec.{ltb, eqb}
 use lib.ListN.{length}
-use borrow.Author.Tests.{lt-ltb, le-ltb, eq-eqb, ne-eqb}
+use borrow.Author.Tests.{eq-eqb, ne-eqb}
 use Rattle.digits.proofs.Bools.{was-not}
 use Rattle.frames.specs.declared.checks.Sum.{Sum}
 use Rattle.frames.specs.Frame.{contentIn, shaped, sumSaid, isOff, isWrong, stationPasses}

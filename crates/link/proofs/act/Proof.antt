@@ -1,10 +1,8 @@
 use Prim.Native.Nat.{_≤_}
-use mathlib.Core.Path.{_≡_, sym, _∙_}
+use mathlib.Core.Path.{sym, _∙_}
 use native.Mathlib.Omega.{arith}
 use lib.ListN.{length}
 use Rattle.calls.specs.Calls.{Call, callOf, areasOf}
-use Rattle.link.specs.declared.Checked.{Checked}
-use Rattle.link.specs.Check.{checkOf}
 use Rattle.link.proofs.Checking.{without-reply, same-act, same-gives, acted-short, acted-refused, acted-heard, acted-told}
 use Rattle.link.proofs.Outcomes.{accepted-so}
 use borrow.Author.Needs.{needs}
