@@ -91,13 +91,16 @@ stored: tools
 	cmp target/vectors/stdin crates/vectors/stdin
 	cmp target/vectors/stdout crates/vectors/stdout
 
-# the archive: the bench listing in pieces of every length, the README's ten lines, then every vector
+# the archive: the bench listing in pieces of every length, the README's two programs, then every vector
 host: tools archive
 	$(X86CC) -std=c99 -O2 $(STRICT) host/bench_listing.c $(ARCHIVE) -o target/host/bench_listing
 	$(CHECKED) target/host/bench_listing
-	cmp <(sed -n '/^    #include "cabinet.h"/,/^    }/s/^    //p' README.md) host/first_host.c
+	cmp <(sed -n '/^    #include "cabinet.h"/,/^    }/s/^    //p' README.md) <(cat host/first_host.c host/panel.c)
 	$(X86CC) -std=c99 -O2 $(STRICT) host/first_host.c $(ARCHIVE) -o target/host/first_host
 	$(X86) target/host/first_host | cmp - <(printf '#9920000123456782B\r\n')
+	$(X86CC) -std=c99 -O2 $(STRICT) host/panel.c $(ARCHIVE) -o target/host/panel
+	echo y | $(X86) target/host/panel | cmp - <(printf '244H: 1 from 001, store? #9924400100151\r\n')
+	echo n | $(X86) target/host/panel | cmp - <(printf '244H: 1 from 001, store? ')
 	$(X86CC) -std=c99 -O2 $(STRICT) host/play_vectors.c $(ARCHIVE) -o target/host/play_vectors
 	$(X86) target/host/play_vectors < crates/vectors/stdin | cmp - crates/vectors/stdout
 	echo "vectors: $$(wc -l < crates/vectors/stdout) calls as the second program says"

@@ -130,23 +130,26 @@
  *   #include <stdbool.h>
  *
  *   bool ask(uint16_t message, size_t start, size_t count);          // these two are the panel's own
- *   void show(uint16_t number);
+ *   void serial_write(const uint8_t *bytes, size_t length);
  *
- *   bool look_and_store(struct cabinet *board, const uint8_t *frame, size_t length)
+ *   void look_and_store(struct cabinet *board, const uint8_t *frame, size_t length)
  *   {
  *       struct cabinet_shown shown;
- *       uint16_t number = cabinet_check_frame(board, frame, length, &shown);      // changes nothing
- *       if (number == CABINET_ACCEPTED && !ask(shown.message, shown.start, shown.count))
- *           return false;                                            // nothing was changed or replied
- *       show(cabinet_act_frame(board, frame, length));               // does it, or refuses it: with the reply
- *       return number == CABINET_ACCEPTED;
+ *       if (cabinet_check_frame(board, frame, length, &shown) == CABINET_ACCEPTED &&
+ *           !ask(shown.message, shown.start, shown.count))           // show, ask
+ *           return;                                                  // nothing is changed or replied
+ *       cabinet_act_frame(board, frame, length);                     // done, or refused by its number
+ *       if (board->reply_length > 0)
+ *           serial_write(board->reply, board->reply_length);
  *   }
  *
  * Acting checks again, by the same rules: it needs no check before it, and where something was changed
  * between the two it goes by what is there then. With nothing between, check and act give what
  * cabinet_answer_frame gives, every byte of it, and what the check showed is what is done: a 244H shown with
- * start 001H and count 45 writes points 1 to 45 and no other, and a query writes none. A refused frame is
- * refused with the same number by both, and its error reply, where there is one, is written by acting.
+ * start 1 and count 45 writes points 1 to 45 and no other, and a query writes none. A refused frame is
+ * refused with the same number by both, and its error reply, where there is one, is written by acting. A
+ * frame that is not acted on has no reply, and the store's computer waits for one in vain. For the service
+ * log a frame is logged once: by what the act tells of the sum or, where there is no act, by shown.sum.
  *
  *
  * A HOST'S LOOP
@@ -390,7 +393,7 @@ uint16_t cabinet_answer(const uint8_t *frame, size_t frame_length,
  *                   frame is refused
  *   start, count    out: the run that the message names, count numbers from start on; of 24BH the flag's
  *                   number and 1. Both are 0 where it names none (200H, 208H, 212H) and where the frame is
- *                   refused
+ *                   refused; where there is a run the count isn't 0, and its start may be
  *
  * Returns CABINET_ACCEPTED where the frame would be done, else the number that cabinet_act and
  * cabinet_answer refuse it with where the reply area is long enough: 2 to 8, 10, 12, 13 or 101 to 108, never
@@ -485,7 +488,7 @@ struct cabinet {
     uint8_t flags[CABINET_FLAGS_BYTES];
     size_t used; /* the journal's used length */
 
-    /* what the last call answered */
+    /* what the last answer, act or step back gave; a check leaves it */
     uint8_t reply[CABINET_REPLY_BYTES];
     size_t reply_length; /* so many bytes of it; 0 where there is no reply */
     uint8_t sum;         /* enum cabinet_sum; CABINET_SUM_UNTESTED at fresh and after a step back */
@@ -509,7 +512,7 @@ static inline uint16_t cabinet_answer_frame(struct cabinet *board,
                           board->reply, sizeof board->reply, &board->reply_length, &board->sum);
 }
 
-/* What cabinet_check_frame says of a frame. */
+/* What cabinet_check_frame says of a frame; all of it is written by the call, and read by name. */
 struct cabinet_shown {
     uint16_t message; /* the ID of the message that would be done, 0x244 for 244H; 0 where it is refused */
     size_t start;     /* the run that the message names: its first number, and how many; of 24BH the flag's */

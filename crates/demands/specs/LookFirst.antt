@@ -54,7 +54,7 @@ pub record Halves (c : Call) (k : Look) (o : Outcome) : Type 0 where
   pub nothing-shown : (k .shown .number ≡ 0 → ⊥) → (k .shown .message ≡ 0) × (k .shown .start ≡ 0) × (k .shown .count ≡ 0)
   pub nothing-done : (k .shown .number ≡ 0 → ⊥) → o .areas ≡ c .areas
 
--- the kind of the things that a message names, and the bytes that it stores of so many
+-- the kind of what a message names, and the bytes that a frame with it says for so many of that
 abbrev pub kindNamed : Message → Call → Kind
 kindNamed m c = kindOf (held c) (m .tag)
 
