@@ -7,11 +7,12 @@ int main(void)
 {
     const char frame[] = "!9924400100103001E001E00640000C350FFFFFFFFF3\r\n"; /* point 1, axes 1 and 2 */
     struct cabinet_shown shown;
-    uint16_t number = cabinet_check_frame(&board, (const uint8_t *)frame, sizeof frame - 1, &shown);
-    if (number == CABINET_ACCEPTED)
+    if (cabinet_check_frame(&board, (const uint8_t *)frame, sizeof frame - 1, &shown) == CABINET_ACCEPTED) {
         printf("%XH: %zu from %03zX, store? ", (unsigned)shown.message, shown.count, shown.start);
-    if (number == CABINET_ACCEPTED && getchar() != 'y')
-        return 0;
-    cabinet_act_frame(&board, (const uint8_t *)frame, sizeof frame - 1); /* stores, or refuses: the reply says so */
+        fflush(stdout);
+        if (getchar() != 'y')
+            return 0; /* nothing was stored */
+    }
+    cabinet_act_frame(&board, (const uint8_t *)frame, sizeof frame - 1); /* checks again; stores, or refuses */
     return fwrite(board.reply, 1, board.reply_length, stdout) != board.reply_length;
 }

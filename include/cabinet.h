@@ -46,9 +46,9 @@
  *
  * A fourth says whether a frame may carry '@@' for its SC and is then not checked. Where that is forbidden,
  * such a frame changes nothing and is refused, with 12 where no earlier test refuses it; every other frame
- * has the same answer either way. Mind the two names: cabinet_answer's is unchecked, and 0 forbids; struct
- * cabinet's is forbid_unchecked, and 0 allows, so that a host which doesn't set it stays as it is. This
- * setting too may change from call to call.
+ * has the same answer either way. Mind the two names: that of cabinet_answer, cabinet_check and cabinet_act
+ * is unchecked, and 0 forbids; struct cabinet's is forbid_unchecked, and 0 allows, so that a host which
+ * doesn't set it stays as it is. This setting too may change from call to call.
  *
  *
  * OWNERSHIP
@@ -65,9 +65,9 @@
  *     the table says, and nothing undefined is done.
  *   - For the step back to give back what was there: start fresh, use the same areas throughout, leave
  *     first_integer and first_flag as they were at fresh, hand each call the used length the last one
- *     handed back, and let nothing else write them.
- *   - Calls on different areas may run at the same time; calls on the same areas may not, but that any
- *     number of checks may.
+ *     handed back (a check hands none back), and let nothing else write them.
+ *   - Calls on different areas may run at the same time. Of calls on the same areas only checks may, any
+ *     number of them, each with out numbers of its own.
  *
  *
  * REFUSAL NUMBERS, IN THE ORDER TESTED
@@ -129,15 +129,18 @@
  *   #include "cabinet.h"
  *   #include <stdbool.h>
  *
- *   bool ask(uint16_t message, size_t start, size_t count);          // these two are the panel's own
+ *   bool ask(uint16_t message, size_t start, size_t count);          // these three are the panel's own;
+ *   void motion_read(uint8_t *axes);                                 // ask is true at once for a query
  *   void serial_write(const uint8_t *bytes, size_t length);
  *
  *   void look_and_store(struct cabinet *board, const uint8_t *frame, size_t length)
  *   {
  *       struct cabinet_shown shown;
+ *       motion_read(board->axes);
  *       if (cabinet_check_frame(board, frame, length, &shown) == CABINET_ACCEPTED &&
  *           !ask(shown.message, shown.start, shown.count))           // show, ask
  *           return;                                                  // nothing is changed or replied
+ *       motion_read(board->axes);                                    // asking took its time
  *       cabinet_act_frame(board, frame, length);                     // done, or refused by its number
  *       if (board->reply_length > 0)
  *           serial_write(board->reply, board->reply_length);
@@ -150,6 +153,11 @@
  * refused with the same number by both, and its error reply, where there is one, is written by acting. A
  * frame that is not acted on has no reply, and the store's computer waits for one in vain. For the service
  * log a frame is logged once: by what the act tells of the sum or, where there is no act, by shown.sum.
+ *
+ * Ask of writes alone: 244H and 246H (points), 24BH (a flag), 24CH (integers), 24EH (columns). A query stores
+ * nothing, and a poll should not wait for a person. Start and count are values; show the start as the
+ * frames write it, in hexadecimal (point 010 is 16): three digits, of a flag four. Keep the frame's bytes
+ * until the act.
  *
  *
  * A HOST'S LOOP
@@ -388,7 +396,8 @@ uint16_t cabinet_answer(const uint8_t *frame, size_t frame_length,
  * written, and there is no reply. Easier to call: cabinet_check_frame below.
  *
  *   frame to first_flag   as in cabinet_answer, all of it only read: the used length by value, no reply area
- *   sum             out: what the sum test said, as cabinet_answer tells it
+ *   sum             out: what the sum test said, as cabinet_answer tells it where its reply area is long
+ *                   enough
  *   message         out: the ID of the message that would be done, as a number, 0x244 for 244H; 0 where the
  *                   frame is refused
  *   start, count    out: the run that the message names, count numbers from start on; of 24BH the flag's

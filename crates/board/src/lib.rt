@@ -66,7 +66,7 @@ fn settings_by(fitted: u8, station: u8, release: u8, unchecked: u8) -> Settings
     }
 }
 
-// The refusal number, never 1, 0 where the frame would be done; everything is read alone.
+// The refusal number, never 1, 0 where the frame would be done; everything is only read.
 #[no_mangle]
 pub extern "C" fn cabinet_check(
     frame: &[u8],

@@ -2,7 +2,7 @@
 use Prim.Native.Nat.{ℕ, _≤_}
 use mathlib.Core.Path.{_≡_, refl, sym, ap, _∙_, subst}
 use mathlib.Core.Bool.{Bool, true, false, cond}
-use mathlib.Core.List.{_++_}
+use mathlib.Core.List.{[], _++_}
 use native.Mathlib.Omega.{arith}
 use lib.ListN.{length}
 use borrow.Author.Tests.{le-leb, le-ltb}
@@ -22,7 +22,7 @@ use Rattle.messages.proofs.Judged.{refused-from}
 use Rattle.messages.proofs.Promised.{judgement}
 use Rattle.messages.proofs.Shapes.{Shape, shaped}
 use Rattle.calls.specs.declared.Told.the-variants.{Untested}
-use Rattle.calls.specs.Calls.{Areas, Call, Outcome, areaIn, written}
+use Rattle.calls.specs.Calls.{Areas, Call, Outcome, areaIn, written, sumCode}
 use Rattle.refusals.specs.Refusals.{tooShort, areaRows, checkRows, lateRows, checkEarly, checkSilentOf}
 use Rattle.orders.specs.Orders.{writes}
 use Rattle.orders.proofs.Judging.{not-so}
@@ -36,7 +36,7 @@ use Rattle.board.proofs.Answered.{same-cabinet}
 use Rattle.demands.specs.History.{messageBy}
 use Rattle.demands.specs.Reading.{startOf, countOf}
 use Rattle.demands.specs.Survive.{Outside}
-use Rattle.demands.specs.LookFirst.{ourPanel, Halves, kindNamed, bytesSaid, ShownIsDone, LookFirst, ContractsAsOne, CabinetLooks}
+use Rattle.demands.specs.LookFirst.{ourPanel, replyingIn, Halves, kindNamed, bytesSaid, ShownIsDone, LookFirst, ContractsAsOne, CabinetAsOne, CabinetLooks}
 use Rattle.demands.proofs.Refused.{number-given, changes-nothing}
 use Rattle.demands.proofs.Asking.{Took, took}
 use Rattle.demands.proofs.Sole.{one-answer, one-cabinet-answer}
@@ -80,12 +80,9 @@ sum-done : (c : Call) (b : Bool) → tooShort (length (c .sent .reply)) ≡ b �
 sum-done c true e = ap (λ (o : Outcome). o .sum) (short-act c e)
 sum-done c false e = ap (λ (o : Outcome). o .sum) (long-act c e)
 
-some-done : (c : Call) → (shown c .number ≡ 0 → ⊥) → actOf c .number ≡ 0 → ⊥
-some-done c n e = go (tooShort (length (c .sent .reply))) refl
-  where
-    go : (b : Bool) → tooShort (length (c .sent .reply)) ≡ b → ⊥
-    go true f = let z = sym (number-done c true f) ∙ e in omega (arith, z)
-    go false f = n (sym (number-done c false f) ∙ e)
+code-done : (c : Call) (b : Bool) → tooShort (length (c .sent .reply)) ≡ b → sumCode (actOf c .sum) ≡ cond b 0 (sumCode (checkOf c .sum))
+code-done c true e = ap sumCode (sum-done c true e)
+code-done c false e = ap sumCode (sum-done c false e)
 
 halves : (c : Call) → Halves c (ourPanel .check c) (actOf c)
 halves c =
@@ -94,7 +91,7 @@ halves c =
       number = number-done c _ refl;
       sum = sum-done c _ refl;
       nothing-shown = refusal-shown (checkOf c .asked);
-      nothing-done = λ n. ap (λ (o : Outcome). o .areas) (same-act c) ∙ changes-nothing .frame c (λ z. some-done c n (ap (λ (o : Outcome). o .number) (same-act c) ∙ z));
+      nothing-done = λ n. ap (λ (o : Outcome). o .areas) (same-act c) ∙ changes-nothing .frame c (λ z. n (ap (λ (o : Outcome). o .number) (same-act c) ∙ z));
     }
 
 -- a write names a run
@@ -153,7 +150,7 @@ module _ (c : Call) (m : Message) (t : Took m c) where
             subst (λ (a : Areas). Outside (kindNamed m c) start count (areaIn (m .tag) (c .areas)) (areaIn (m .tag) a)) (sym (acted ∙ areas-left m c t false w))
             (record { before-it = λ i b. refl; behind-it = λ i b. refl; as-long = refl })
 
-shown-is-done : (c : Call) → shown c .number ≡ 0 → 1024 ≤ length (c .sent .reply) → ShownIsDone c (shown c) (actOf c)
+shown-is-done : (c : Call) → shown c .number ≡ 0 → 1024 ≤ length (c .sent .reply) → ShownIsDone c (shown c) (actOf c .areas)
 shown-is-done c z long =
     let zero = sym (ap (λ (o : Outcome). o .number) (same-act c)) ∙ number-done c false (le-ltb _ _ long) ∙ z in
     let a = accepted c zero in
@@ -190,12 +187,20 @@ look-first =
 pub contracts-as-one : ContractsAsOne
 contracts-as-one c r r′ a a′ reply reply′ x y = one-answer answerOf c r r′ a a′ reply reply′ (same-gives c (same-act c) x) y
 
+pub cabinet-as-one : CabinetAsOne
+cabinet-as-one c n n′ l l′ u u′ s s′ a a′ reply reply′ x y =
+    one-cabinet-answer answerOf c n n′ l l′ u u′ s s′ a a′ reply reply′ (same-cabinet c (same-act c) x) y
+
 pub cabinet-looks : CabinetLooks
-cabinet-looks =
+cabinet-looks c k told m start count n l u s a reply x y =
+    let e = without-reply c in
+    let of : (f : Shown → ℕ) → f (shownOf (checkOf (replyingIn [] c) .asked)) ≡ f (shown c) = λ f. ap (λ (w : Checked). f (shownOf (w .asked))) e in
+    let kn : k ≡ shown c .number = x .number-is ∙ of (λ (w : Shown). w .number) in
+    let w : record { number = k; message = m; start = start; count = count } ≡ shown c =
+    λ i. record { number = kn i; message = (x .message-is ∙ of (λ (w : Shown). w .message)) i; start = (x .start-is ∙ of (λ (w : Shown). w .start)) i; count = (x .count-is ∙ of (λ (w : Shown). w .count)) i } in
     record {
-      as-one = λ c n n′ l l′ u u′ s s′ a a′ reply reply′ x y. one-cabinet-answer answerOf c n n′ l l′ u u′ s s′ a a′ reply reply′ (same-cabinet c (same-act c) x) y;
-      number = λ c k told m start count n l u s a reply x y.
-          y .gives .number-is
-          ∙ number-done c _ refl
-          ∙ ap (cond (tooShort (length (c .sent .reply))) 1) (sym (x .number-is ∙ ap (λ (w : Checked). shownOf (w .asked) .number) (without-reply c)));
+      number = y .gives .number-is ∙ number-done c _ refl ∙ ap (cond (tooShort (length (c .sent .reply))) 1) (sym kn);
+      sum = y .sum-is ∙ code-done c _ refl ∙ ap (cond (tooShort (length (c .sent .reply))) 0) (sym (x .sum-is ∙ ap (λ (w : Checked). sumCode (w .sum)) e));
+      done = λ z long.
+          subst (ShownIsDone c _) (sym (y .gives .areas-are)) (subst (λ (v : Shown). ShownIsDone c v (actOf c .areas)) (sym w) (shown-is-done c (sym kn ∙ z) long));
     }

@@ -7,7 +7,7 @@ use Rattle.demands.specs.TestCalls.{TestCalls}
 use Rattle.demands.specs.Releases.{Releases, SameAnswer}
 use Rattle.demands.specs.SwitchedOff.{SwitchedOffRule, ContractAsBefore}
 use Rattle.demands.specs.OneByte.{OneByte}
-use Rattle.demands.specs.LookFirst.{ourPanel, LookFirst, ContractsAsOne, CabinetLooks}
+use Rattle.demands.specs.LookFirst.{ourPanel, LookFirst, ContractsAsOne, CabinetAsOne, CabinetLooks}
 
 -- "A frame that is refused changes no point, no column and nothing in the journal, and a refusal has one number and one fixed reply, or none."; no
 -- integer and no flag either (02, a)
@@ -40,6 +40,7 @@ pub record Demand2 : Type 0 where
   -- "Checking and then doing, with nothing between, equals the old single call" (02, g)
   pub look-first : LookFirst ourPanel
   pub contracts-as-one : ContractsAsOne
+  pub cabinet-as-one : CabinetAsOne
   pub cabinet-looks : CabinetLooks
 
 -- "After any sequence of frames and steps back, points and columns are exactly what the accepted writes not taken back would leave"; "all four kinds"

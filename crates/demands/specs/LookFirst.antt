@@ -29,7 +29,7 @@ pub record Look : Type 0 where
   pub shown : Shown
   pub sum : Told
 
--- what a board does for a panel: a check, to which everything is lent to be read alone, an act, and "the old single call"
+-- what a board does for a panel: a check, to which everything is lent to be only read, an act, and "the old single call"
 pub record Panel : Type 0 where
   pub check : Call → Look
   pub act : Call → Outcome
@@ -50,9 +50,9 @@ pub record Halves (c : Call) (k : Look) (o : Outcome) : Type 0 where
   -- acting gives 1 where the reply area is too short, else the check's number, and tells the same of the sum
   pub number : o .number ≡ cond (tooShort (length (c .sent .reply))) 1 (k .shown .number)
   pub sum : o .sum ≡ cond (tooShort (length (c .sent .reply))) Untested (k .sum)
-  -- of a refused frame no message and no run is shown, and acting on it changes nothing
+  -- of a refused frame no message and no run is shown, and an act that is refused, by 1 too, changes nothing
   pub nothing-shown : (k .shown .number ≡ 0 → ⊥) → (k .shown .message ≡ 0) × (k .shown .start ≡ 0) × (k .shown .count ≡ 0)
-  pub nothing-done : (k .shown .number ≡ 0 → ⊥) → o .areas ≡ c .areas
+  pub nothing-done : (o .number ≡ 0 → ⊥) → o .areas ≡ c .areas
 
 -- the kind of what a message names, and the bytes that a frame with it says for so many of that
 abbrev pub kindNamed : Message → Call → Kind
@@ -61,8 +61,8 @@ kindNamed m c = kindOf (held c) (m .tag)
 abbrev pub bytesSaid : Message → ℕ → Call → List ℕ
 bytesSaid m count c = newBytes (m .does) (kindNamed m c .unit) count (rest (c .sent) m)
 
--- what is shown of a frame is what acting on it then does
-pub record ShownIsDone (c : Call) (w : Shown) (o : Outcome) : Type 0 where
+-- what is shown of a frame is what acting on it then does: the areas that it leaves
+pub record ShownIsDone (c : Call) (w : Shown) (after : Areas) : Type 0 where
   -- the message whose ID is shown is the frame's own; start and count are as the frame says, or 0 where the message names no run
   pub message : Message
   pub id : w .message ≡ message .id
@@ -70,18 +70,18 @@ pub record ShownIsDone (c : Call) (w : Shown) (o : Outcome) : Type 0 where
   pub start : w .start ≡ cond (namesRun message) (startOf message (c .sent)) 0
   pub count : w .count ≡ cond (namesRun message) (countOf message (c .sent)) 0
   -- one that is shown as a query changes nothing
-  pub query : writes (message .does) ≡ false → o .areas ≡ c .areas
+  pub query : writes (message .does) ≡ false → after ≡ c .areas
   -- one that is shown as a write is just that write: its bytes are put in from the number shown on, with one entry of what they replace
   pub write :
       writes (message .does) ≡ true
-      → o .areas ≡ written (held c) (message .tag) (w .start) (w .count) (bytesSaid message (w .count) c) (c .areas)
+      → after ≡ written (held c) (message .tag) (w .start) (w .count) (bytesSaid message (w .count) c) (c .areas)
   -- so "write 45 points from 001" writes these 45 slots: the run shown then holds what the frame says,
   pub these :
       writes (message .does) ≡ true
-      → runOf (kindNamed message c) (w .start) (w .count) (areaIn (message .tag) (o .areas)) ≡ bytesSaid message (w .count) c
+      → runOf (kindNamed message c) (w .start) (w .count) (areaIn (message .tag) after) ≡ bytesSaid message (w .count) c
   -- and no other: all that stands outside it, and every other kind, is as before
-  pub no-other : Outside (kindNamed message c) (w .start) (w .count) (areaIn (message .tag) (c .areas)) (areaIn (message .tag) (o .areas))
-  pub no-other-kind : (tag : ℕ) → (tag ≡ message .tag → ⊥) → areaIn tag (o .areas) ≡ areaIn tag (c .areas)
+  pub no-other : Outside (kindNamed message c) (w .start) (w .count) (areaIn (message .tag) (c .areas)) (areaIn (message .tag) after)
+  pub no-other-kind : (tag : ℕ) → (tag ≡ message .tag → ⊥) → areaIn tag after ≡ areaIn tag (c .areas)
 
 -- "Checking and then doing, with nothing between, equals the old single call": number, reply, every lent byte, what is kept and the sum told
 abbrev pub AsOne : Panel → Type 0
@@ -96,7 +96,7 @@ AnyReplyArea board = (c : Call) (reply : List ℕ) → board .check (replyingIn 
 
 abbrev pub DoesWhatIsShown : Panel → Type 0
 DoesWhatIsShown board =
-    (c : Call) → board .check c .shown .number ≡ 0 → 1024 ≤ length (c .sent .reply) → ShownIsDone c (board .check c .shown) (board .act c)
+    (c : Call) → board .check c .shown .number ≡ 0 → 1024 ≤ length (c .sent .reply) → ShownIsDone c (board .check c .shown) (board .act c .areas)
 
 pub record LookFirst (board : Panel) : Type 0 where
   pub as-one : AsOne board
@@ -104,18 +104,26 @@ pub record LookFirst (board : Panel) : Type 0 where
   pub any-reply-area : AnyReplyArea board
   pub does-what-is-shown : DoesWhatIsShown board
 
--- so for the contracts of `act` and `answer`, and for the C calls: every number and every lent byte is the same, whichever of the two is called
+-- so for the contracts of `act` and `answer`: every number and every lent byte is the same, whichever of the two is called
 abbrev pub ContractsAsOne : Type 0
 ContractsAsOne =
     (c : Call) (r r′ : Answered) (a a′ : Areas) (reply reply′ : List ℕ)
     → Acts c r a reply → Answers c r′ a′ reply′ → (r ≡ r′) × (a ≡ a′) × (reply ≡ reply′)
 
-pub record CabinetLooks : Type 0 where
-  pub as-one :
-      (c : Call) (n n′ l l′ u u′ s s′ : ℕ) (a a′ : Areas) (reply reply′ : List ℕ)
-      → CabinetActs c n l u s a reply → CabinetAnswers c n′ l′ u′ s′ a′ reply′
-      → (n ≡ n′) × (l ≡ l′) × (u ≡ u′) × (s ≡ s′) × (a ≡ a′) × (reply ≡ reply′)
-  -- `cabinet_check`, which is handed no reply area, and then `cabinet_act`
-  pub number :
-      (c : Call) (k told m start count n l u s : ℕ) (a : Areas) (reply : List ℕ)
-      → CabinetChecks (replyingIn [] c) k told m start count → CabinetActs c n l u s a reply → n ≡ cond (tooShort (length (c .sent .reply))) 1 k
+-- and for the C calls
+abbrev pub CabinetAsOne : Type 0
+CabinetAsOne =
+    (c : Call) (n n′ l l′ u u′ s s′ : ℕ) (a a′ : Areas) (reply reply′ : List ℕ)
+    → CabinetActs c n l u s a reply → CabinetAnswers c n′ l′ u′ s′ a′ reply′
+    → (n ≡ n′) × (l ≡ l′) × (u ≡ u′) × (s ≡ s′) × (a ≡ a′) × (reply ≡ reply′)
+
+-- `cabinet_check`, which is handed no reply area, and then `cabinet_act`: the number, `*sum`, and what is left
+pub record CabinetHalves (c : Call) (k told m start count n s : ℕ) (after : Areas) : Type 0 where
+  pub number : n ≡ cond (tooShort (length (c .sent .reply))) 1 k
+  pub sum : s ≡ cond (tooShort (length (c .sent .reply))) 0 told
+  pub done : k ≡ 0 → 1024 ≤ length (c .sent .reply) → ShownIsDone c (record { number = k; message = m; start = start; count = count }) after
+
+abbrev pub CabinetLooks : Type 0
+CabinetLooks =
+    (c : Call) (k told m start count n l u s : ℕ) (a : Areas) (reply : List ℕ)
+    → CabinetChecks (replyingIn [] c) k told m start count → CabinetActs c n l u s a reply → CabinetHalves c k told m start count n s a

@@ -19,7 +19,7 @@ use Rattle.link.specs.Answer.{asked, textOf, areasAfter, unanswered}
 unfoldable pub checkOf : Call → Checked
 checkOf c = record { asked = cond (eqb (checkSilentOf c) 0) (asked c) (Refused (checkSilentOf c)); sum = checkToldOf c }
 
--- a refusal's reply: none below 101, then the error reply
+-- a refusal's reply, as the table's column "Reply" has it ("Refusal numbers"): none below 101, then the error reply
 abbrev pub refusedText : ℕ → ℕ → List ℕ
 refusedText station number = cond (ltb number 101) [] (errorOf station number)
 

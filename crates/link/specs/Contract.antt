@@ -1,4 +1,5 @@
--- The contract of each public call: one record of equations that determines every number, what is told of the sum, and every lent byte.
+-- The contract of each public call: one record of equations that determines every number, what is told of the sum, and every lent byte; a check, which
+-- leaves no byte, has one equation, with `checkOf`.
 use Prim.Native.Nat.{ℕ}
 use mathlib.Core.Path.{_≡_}
 use mathlib.Core.List.{List}

@@ -117,7 +117,7 @@ fn perform(
     carry_out(order, frame, flags, journal, kept, axes, settings, reply)
 }
 
-// The first half of an answer: the refusal, never 1, or what would be done. Everything is read alone, and there is no reply area.
+// The first half of an answer: the refusal, never 1, or what would be done. Everything is only read, and there is no reply area.
 pub fn check(
     frame: &[u8],
     points: &[u8],

@@ -23,7 +23,7 @@ ghost use Rattle.table.specs.Table.{messageOf, anyBytes, Narrow};
 ghost use Rattle.messages.specs.Asked.{notDigits, judged, askedOf};
 ghost use Rattle.messages.specs.Shown.{shownOf};
 
-// What a frame asks: a refusal, 101 to 108, or a message's order with its start number and count.
+// What a frame asks: a refusal, 101 to 108 here, and without a reply too in what a check answers; or a message's order with its start number and count.
 pub enum Asked {
     Refused {
         number: u16,

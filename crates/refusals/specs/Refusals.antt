@@ -1,5 +1,5 @@
 -- Document 01, "Refusal numbers, in the order tested", and document 02, requests a, c, f, g and l: 1 to 10, 12 and 13 here, 101 to 108 by
--- `askedRows` of messages. Nothing else decides a number.
+-- `askedRows` of messages. Nothing else decides a number; the 1 of an act (`actOf` of link) is row 1's, by `tooShort`.
 use Prim.Native.Nat.{ℕ, _+_, _*_, _%_}
 use mathlib.Core.Bool.{Bool, true, cond, not, _&&_, _||_}
 use mathlib.Core.List.{List, [], _∷_, _++_}
@@ -73,10 +73,11 @@ checkRows frame axes settings lengths journal kept =
     ∷ (6 when (not (shaped frame)))
     ∷ [])
 
--- and 1 before them, "reply area under 1,024", with one of so many bytes
+-- 1: "reply area under 1,024"
 abbrev pub tooShort : ℕ → Bool
 tooShort reply = ltb reply 1024
 
+-- 1 before these, with a reply area of so many bytes
 unfoldable pub earlyRows : ℕ → List ℕ → Axes → Settings → Lengths → List ℕ → Kept → List Row
 earlyRows reply frame axes settings lengths journal kept = (1 when (tooShort reply)) ∷ checkRows frame axes settings lengths journal kept
 

@@ -1,5 +1,5 @@
-// The tests behind the refusals without a reply, and the step back's (document 01, "Refusal numbers, in the order tested"; document 02, a: 10; f: 12;
-// l: 13; g: a check tests them too).
+// The tests behind the refusals without a reply but 1, and the step back's (document 01, "Refusal numbers, in the order tested"; document 02, a: 10;
+// f: 12; l: 13; g: a check tests them too).
 use axes::Axes;
 use axes::AxisRecord;
 use calls::Kept;

@@ -96,6 +96,7 @@ look-broken =
       );
       without-reply = λ e. let f : _≡_ {A = ℕ} 0 13 = ap (λ (o : Outcome). length (o .text)) (e poll) in omega (arith, f);
       spoils-refused = λ e. let f : _≡_ {A = ℕ} 0xFF 0 = ap last (e (looked "!9929937\r\n") .nothing-done (λ z. omega (arith, z))) in omega (arith, f);
+      spoils-short = λ e. let f : _≡_ {A = ℕ} 0xFF 0 = ap last (e (replying 1023 "!99208@@\r\n") .nothing-done (λ z. omega (arith, z))) in omega (arith, f);
       spoils-query = λ e.
           let d = e poll refl enough in
           let f : _≡_ {A = ℕ} 0xFF 0 = ap last (d .query (ap (λ (m : Message). writes (m .does)) (sym (same-row {r = counting} (d .named))))) in

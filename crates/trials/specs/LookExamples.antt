@@ -142,15 +142,18 @@ withoutCheck =
 abbrev pub withoutReply : Panel
 withoutReply = record { check = ourPanel .check; act = λ c. saying [] (actOf c); answer = answerOf }
 
--- column 999 spoiled: where a frame is refused, by a query, beside the columns that a 24EH writes, and by a 246H
+-- column 999 spoiled: where a frame is refused, where the reply area is too short, by a query, beside the columns that a 24EH writes, and by a 246H
 abbrev pub spoiling : Outcome → Outcome
 spoiling o = storing (putIn (holding 2) (entryFor columnsTag 999 (0xFF ∷ [])) (o .areas)) o
 
 abbrev pub spoilsRefused : Panel
-spoilsRefused = acting (λ c o. cond (eqb (o .number) 0) o (spoiling o))
+spoilsRefused = acting (λ c o. cond (eqb (o .number) 101) (spoiling o) o)
+
+abbrev pub spoilsShort : Panel
+spoilsShort = acting (λ c o. cond (eqb (o .number) 1) (spoiling o) o)
 
 abbrev pub spoilsQuery : Panel
-spoilsQuery = acting (λ c o. cond (asksWrite (asked c)) o (spoiling o))
+spoilsQuery = acting (λ c o. cond (eqb (o .number) 0) (cond (asksWrite (asked c)) o (spoiling o)) o)
 
 abbrev pub spoilsBeside : Panel
 spoilsBeside = acting (λ c o. cond (eqb (ourPanel .check c .shown .message) 0x24E) (spoiling o) o)
@@ -158,13 +161,15 @@ spoilsBeside = acting (λ c o. cond (eqb (ourPanel .check c .shown .message) 0x2
 abbrev pub spoilsOther : Panel
 spoilsOther = acting (λ c o. cond (eqb (ourPanel .check c .shown .message) 0x246) (spoiling o) o)
 
--- a write without its entry, and one whose last column is not written
+-- a write without its entry, and a 24EH that clears column 303, the last of the lot code's
 abbrev pub withoutEntry : Panel
 withoutEntry =
     acting (λ c o. record { number = o .number; text = o .text; areas = withEntries (entriesOf (held c) (c .areas)) (o .areas); sum = o .sum })
 
 abbrev pub notTheLast : Panel
-notTheLast = acting (λ c o. storing (putIn (holding 2) (entryFor columnsTag 303 (0 ∷ [])) (o .areas)) o)
+notTheLast =
+    acting (λ c o.
+    cond (eqb (ourPanel .check c .shown .message) 0x24E) (storing (putIn (holding 2) (entryFor columnsTag 303 (0 ∷ [])) (o .areas)) o) o)
 
 pub record LookBroken : Type 0 where
   pub gives-one : SameRefusals givesOne → ⊥
@@ -178,6 +183,7 @@ pub record LookBroken : Type 0 where
   pub without-check : (SameRefusals withoutCheck → ⊥) × (AsOne withoutCheck → ⊥)
   pub without-reply : AsOne withoutReply → ⊥
   pub spoils-refused : SameRefusals spoilsRefused → ⊥
+  pub spoils-short : SameRefusals spoilsShort → ⊥
   pub spoils-query : DoesWhatIsShown spoilsQuery → ⊥
   pub spoils-beside : DoesWhatIsShown spoilsBeside → ⊥
   pub spoils-other : DoesWhatIsShown spoilsOther → ⊥
