@@ -15,7 +15,7 @@ use Rattle.calls.specs.Calls.{Areas, Call, Outcome, sumCode}
 use Rattle.messages.specs.declared.Shown.{Shown}
 use Rattle.messages.specs.Shown.{shownOf}
 use Rattle.link.specs.declared.Answered.{Answered}
-use Rattle.link.specs.declared.Back.{Back}
+use Rattle.back.specs.declared.Back.{Back}
 use Rattle.link.specs.Answer.{answerOf}
 use Rattle.link.specs.Check.{checkOf, actOf}
 use Rattle.link.specs.Contract.{Gives}

@@ -1,5 +1,6 @@
 // The calls that the board's C host makes (include/cabinet.h).
 use axes::read_axes;
+use back::step_back;
 use calls::Kept;
 use calls::Settings;
 use calls::sum_code;
@@ -9,14 +10,13 @@ use finder::frame_in;
 use kinds::Firsts;
 use link::act;
 use link::check;
-use link::step_back;
 use messages::show;
 ghost use mathlib.Core.Path.{_≡_};
 ghost use mathlib.Core.List.{[]};
 ghost use Rattle.finder.specs.Find.{findIn};
 ghost use Rattle.axes.specs.Axes.{axesIn};
 ghost use Rattle.calls.specs.Calls.{areasOf, callOf};
-ghost use Rattle.link.specs.Contract.{StepsBack};
+ghost use Rattle.back.specs.Back.{StepsBack};
 ghost use Rattle.board.specs.Calls.{Receives, settingsOf, keptOf, firstsOf, CabinetAnswers, CabinetActs, CabinetChecks, backedOf};
 
 // 0 a frame, 1 nothing, 2 wait, 3 too long.

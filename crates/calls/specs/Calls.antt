@@ -44,6 +44,10 @@ pub record Outcome : Type 0 where
   pub areas : Areas
   pub sum : Told
 
+-- nothing is changed and nothing is replied
+abbrev pub unanswered : Told → ℕ → Areas → Outcome
+unanswered told number a = record { number = number; text = []; areas = a; sum = told }
+
 -- the number of what is told of the sum: 0 untested, 1 true, 2 switched off, 3 wrong (02, f)
 abbrev pub sumCode : Told → ℕ
 sumCode Untested = 0

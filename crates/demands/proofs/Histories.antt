@@ -27,8 +27,9 @@ use Rattle.messages.proofs.Judged.{told}
 use Rattle.calls.specs.Calls.{Areas, Sent, Outcome, fresh, areaIn, putIn, oldEntry, withEntries, steppedBack}
 use Rattle.calls.proofs.Tagged.{each-long}
 use Rattle.orders.specs.Orders.{newBytes}
-use Rattle.link.specs.Answer.{asked, answerOf, backOf}
-use Rattle.link.proofs.Answering.{accepted-back}
+use Rattle.link.specs.Answer.{asked, answerOf}
+use Rattle.back.proofs.Backing.{accepted-back}
+use Rattle.back.specs.Back.{backOf}
 use Rattle.demands.specs.Refused.{asksWrite}
 use Rattle.demands.specs.History.{messageBy, ours, Event, frame, stepBack, callOn, after, acceptedWrite, butLast, standing, Past, past, alone, allAccepted, entries, runSaid, entrySaid, entryBy, stored, account, entered, Holds, EveryHistory}
 use Rattle.demands.proofs.Refused.{one-number, changes-nothing, query-changes-nothing}

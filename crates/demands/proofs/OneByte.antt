@@ -11,10 +11,10 @@ use Rattle.frames.proofs.Three.{said-true}
 use Rattle.messages.specs.Rows.{firstOf}
 use Rattle.calls.specs.declared.Told.{Told}
 use Rattle.calls.specs.declared.Told.the-variants.{Untested, Said}
-use Rattle.calls.specs.Calls.{Call, Outcome, lengthsOf, sumCode}
+use Rattle.calls.specs.Calls.{Call, Outcome, lengthsOf, sumCode, unanswered}
 use Rattle.refusals.specs.Refusals.{early}
 use Rattle.refusals.proofs.Rows.{EarlyPassed, past-early, told-said}
-use Rattle.link.specs.Answer.{unanswered, answerOf}
+use Rattle.link.specs.Answer.{answerOf}
 use Rattle.link.proofs.Answering.{silent-answer}
 use Rattle.demands.specs.Refused.{among}
 use Rattle.demands.specs.History.{ours}

@@ -24,11 +24,12 @@ use Rattle.messages.specs.Asked.{askedRows, numberGiven}
 use Rattle.messages.proofs.Judged.{asked-from}
 use Rattle.calls.specs.declared.Told.{Told}
 use Rattle.calls.specs.declared.Told.the-variants.{Untested}
-use Rattle.calls.specs.Calls.{Areas, Call, Outcome, lengthsOf}
+use Rattle.calls.specs.Calls.{Areas, Call, Outcome, lengthsOf, unanswered}
 use Rattle.refusals.specs.Refusals.{axesFit, releaseFits, areaRows, checkRows, earlyRows, lateRows, silent, silentOf, toldOf, backRows, backRefusalOf}
-use Rattle.link.specs.Answer.{held, asked, areasAfter, textOf, unanswered, answerOf, backOf}
+use Rattle.link.specs.Answer.{held, asked, areasAfter, textOf, answerOf}
 use Rattle.refusals.proofs.Rows.{AreasPass, past-areas, ownNumber, lateNumber, earlyNumber, early-rows, silent-is, told-untested}
 use Rattle.link.proofs.Answering.{silent-answer, frame-number, asked-number, heard-number}
+use Rattle.back.specs.Back.{backOf}
 use Rattle.demands.specs.Refused.{OneNumber, frameNumbers, backNumbers, among, NoOtherNumber, ChangesNothing, OneReply, ErrorsAgree, asksWrite, QueryChangesNothing}
 
 -- an answer, by whether its frame was heard

@@ -3,7 +3,7 @@ use Prim.Native.Nat.{ℕ}
 use mathlib.Core.Path.{_≡_, sym, ap, _∙_}
 use mathlib.Core.List.{List}
 use Rattle.link.specs.declared.Answered.{Answered}
-use Rattle.link.specs.declared.Back.{Back}
+use Rattle.back.specs.declared.Back.{Back}
 use Rattle.calls.specs.Calls.{Call}
 use Rattle.board.specs.Calls.{answeredOf, backedOf}
 use Rattle.demands.specs.Sole.{OneAnswer, OneCheck, OneStepBack, OneFound, OneReceive, OneCabinetAnswer, OneCabinetCheck, OneCabinetBack}

@@ -21,10 +21,10 @@ use Rattle.table.specs.declared.Named.the-variants.{Known, Unknown}
 use Rattle.messages.specs.Asked.{askedRows, numberGiven}
 use Rattle.calls.specs.declared.Told.{Told}
 use Rattle.calls.specs.declared.Told.the-variants.{Untested, Said}
-use Rattle.calls.specs.Calls.{Call, Outcome, lengthsOf}
+use Rattle.calls.specs.Calls.{Call, Outcome, lengthsOf, unanswered}
 use Rattle.refusals.specs.Refusals.{areaRows, checkRows, earlyRows, lateRows, early, silentOf, toldOf}
 use Rattle.refusals.proofs.Rows.{EarlyPassed, forbidden, lateNumber, earlyNumber, early-rows, late-rows, late-by, past-early, early-passed, early-given, silent-is, call-passed, told-untested, told-said, same-told-after}
-use Rattle.link.specs.Answer.{held, asked, textOf, areasAfter, unanswered, answerOf}
+use Rattle.link.specs.Answer.{held, asked, textOf, areasAfter, answerOf}
 use Rattle.link.proofs.Answering.{silent-answer, heard-answer, asked-number}
 use Rattle.demands.specs.Refused.{among}
 use Rattle.demands.specs.History.{messageBy, ours}

@@ -18,7 +18,8 @@ use Rattle.table.specs.Table.{messageOf, startIn, countIn, restIn}
 use Rattle.calls.specs.Calls.{Areas, Sent, Call, Outcome, fresh, lengthsOf, areaIn, putIn, entriesOf, oldEntry}
 use Rattle.refusals.specs.Refusals.{leastJournal, refusalOf}
 use Rattle.orders.specs.Orders.{newBytes}
-use Rattle.link.specs.Answer.{asked, answerOf, backOf}
+use Rattle.link.specs.Answer.{asked, answerOf}
+use Rattle.back.specs.Back.{backOf}
 use Rattle.demands.specs.Refused.{asksWrite}
 
 -- what a board does: the outcome of a frame, and of a step back

@@ -12,9 +12,8 @@ use Rattle.frames.specs.declared.checks.Sum.the-variants.{Wrong}
 use Rattle.frames.specs.Frame.{testCallFits, sumTrue}
 use Rattle.messages.specs.Rows.{firstOf}
 use Rattle.calls.specs.declared.Told.the-variants.{Untested, Said}
-use Rattle.calls.specs.Calls.{Call, Outcome}
+use Rattle.calls.specs.Calls.{Call, Outcome, unanswered}
 use Rattle.refusals.specs.Refusals.{early}
-use Rattle.link.specs.Answer.{unanswered}
 use Rattle.demands.specs.History.{Conduct}
 use Rattle.demands.specs.TestCalls.{handed}
 

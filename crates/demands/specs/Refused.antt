@@ -13,7 +13,8 @@ use Rattle.calls.specs.Calls.{Areas, Call}
 use Rattle.refusals.specs.Refusals.{silentOf, refusalOf, backRefusalOf}
 use Rattle.link.specs.Answer as link
 use Rattle.orders.specs.Orders.{writes}
-use Rattle.link.specs.Answer.{asked, answerOf, backOf}
+use Rattle.link.specs.Answer.{asked, answerOf}
+use Rattle.back.specs.Back.{backOf}
 
 -- the number that comes back is the table's, for a frame and for a step back ("Refusal numbers")
 pub record OneNumber : Type 0 where

@@ -10,9 +10,10 @@ use Rattle.messages.specs.Shown.{shownOf}
 use Rattle.calls.specs.Calls.{Areas, Call, Outcome}
 use Rattle.link.specs.declared.Answered.{Answered}
 use Rattle.link.specs.declared.Checked.{Checked}
-use Rattle.link.specs.declared.Back.{Back}
+use Rattle.back.specs.declared.Back.{Back}
 use Rattle.link.specs.Check.{checkOf}
-use Rattle.link.specs.Contract.{Gives, StepsBack}
+use Rattle.link.specs.Contract.{Gives}
+use Rattle.back.specs.Back.{StepsBack}
 use Rattle.board.specs.Calls.{Receives, CabinetGives, CabinetChecks, backedOf}
 
 -- `answer`, `answer_lent` and `act`, whatever outcome a contract cites: every number, what is told of the sum, and every lent byte

@@ -13,10 +13,10 @@ use Rattle.frames.specs.Frame.{scIn, sumTrue, sumOff, sumSaid, stationPasses}
 use Rattle.messages.specs.Rows.{_when_, firstOf}
 use Rattle.messages.specs.Asked.{numberGiven}
 use Rattle.calls.specs.declared.Told.the-variants.{Untested, Said}
-use Rattle.calls.specs.Calls.{Areas, Sent, Call, Outcome, callOf}
+use Rattle.calls.specs.Calls.{Areas, Sent, Call, Outcome, callOf, unanswered}
 use Rattle.refusals.specs.Refusals.{early, toldOf}
 use Rattle.link.specs.declared.Answered.{Answered}
-use Rattle.link.specs.Answer.{asked, textOf, areasAfter, unanswered}
+use Rattle.link.specs.Answer.{asked, textOf, areasAfter}
 use Rattle.link.specs.Contract.{Answers}
 use Rattle.demands.specs.Refused.{among}
 use Rattle.demands.specs.History.{Conduct}

@@ -12,9 +12,8 @@ use Rattle.finder.specs.Find.{findIn, partOf}
 use Rattle.finder.specs.Laws.{Quiet, TestCallRule, FoundAsBefore}
 use Rattle.messages.specs.Rows.{firstOf}
 use Rattle.calls.specs.declared.Told.the-variants.{Untested}
-use Rattle.calls.specs.Calls.{Areas, Sent, Call, Outcome, callOf, lengthsOf}
+use Rattle.calls.specs.Calls.{Areas, Sent, Call, Outcome, callOf, lengthsOf, unanswered}
 use Rattle.refusals.specs.Refusals.{areaRows}
-use Rattle.link.specs.Answer.{unanswered}
 use Rattle.demands.specs.History.{Conduct, ours}
 use Rattle.demands.specs.Reading.{commandOf, Host, allowed}
 

@@ -17,11 +17,10 @@ use Rattle.messages.specs.Rows.{firstOf}
 use Rattle.table.specs.Table.{messageOf}
 use Rattle.messages.specs.Asked.{askedRows, askedOf, numberGiven}
 use Rattle.messages.proofs.Judged.{number-judged, refused-some}
-use Rattle.calls.specs.declared.Told.the-variants.{Untested}
-use Rattle.calls.specs.Calls.{Areas, Call, Outcome, lengthsOf, steppedBack}
-use Rattle.refusals.specs.Refusals.{silent, silentOf, toldOf, refusalOf, backRefusalOf}
+use Rattle.calls.specs.Calls.{Call, Outcome, lengthsOf, unanswered}
+use Rattle.refusals.specs.Refusals.{silent, silentOf, toldOf, refusalOf}
 use Rattle.refusals.proofs.Rows.{silent-is, refusal-is, call-passed, past-silent, silent-given}
-use Rattle.link.specs.Answer.{asked, textOf, areasAfter, unanswered, answerOf, backOf}
+use Rattle.link.specs.Answer.{asked, textOf, areasAfter, answerOf}
 
 pub silent-first : (c : Call) → silentOf c ≡ firstOf (silent c)
 unfolding silentOf
@@ -93,15 +92,6 @@ accepted c e = go (eqb (silentOf c) 0) refl
     go : (b : Bool) → eqb (silentOf c) 0 ≡ b → Accepted c
     go true q = let z = eqb-true _ _ q in low (asked c) refl z (none z) (λ w. refused-some (heldIn (lengthsOf (c .areas))) (c .sent .settings .fitted) (c .sent .settings .release) (c .sent .frame) w)
     go false q = let z = eqb-false _ _ q in absurd (z (sym (silent-number c z .0) ∙ sym (frame-number c) ∙ e))
-
--- the step back's outcome
-pub refused-back : (a : Areas) (k : ℕ) → k ≡ backRefusalOf a → (k ≡ 0 → ⊥) → backOf a ≡ unanswered Untested k a
-unfolding backOf
-refused-back a k e n = rw (← e, ne-eqb k 0 n)
-
-pub accepted-back : (a : Areas) → backRefusalOf a ≡ 0 → backOf a ≡ unanswered Untested 0 (steppedBack (heldIn (lengthsOf a)) a)
-unfolding backOf
-accepted-back a e = rw e
 
 -- what is asked, of what is held as it was worked out
 pub same-asked : {a : Asked} {h h′ : Held} (fitted release : ℕ) (frame : List ℕ) → a ≡ askedOf h fitted release frame → h ≡ h′ → askedOf h′ fitted release frame ≡ a

@@ -19,18 +19,19 @@ use Rattle.messages.proofs.Judged.{refused-from}
 use Rattle.calls.specs.declared.Kept.{Kept}
 use Rattle.calls.specs.declared.Told.{Told}
 use Rattle.calls.specs.declared.Told.the-variants.{Untested}
-use Rattle.calls.specs.Calls.{Areas, Call, Outcome, callOf, lengthsOf}
+use Rattle.calls.specs.Calls.{Areas, Call, Outcome, callOf, lengthsOf, unanswered}
+use Rattle.calls.proofs.Parts.{equal-parts}
 use Rattle.refusals.specs.Refusals.{tooShort, lateRows, earlyRows, silentOf, toldAfter, toldOf, early, checkEarly, checkSilentOf, checkToldOf}
 use Rattle.refusals.proofs.Rows.{passed, checked-rows, told-untested}
 use Rattle.refusals.proofs.Tested.{shaped-long, sound}
 use Rattle.orders.specs.declared.Order as order
 use Rattle.link.specs.declared.Answered.{Answered}
 use Rattle.link.specs.declared.Checked.{Checked}
-use Rattle.link.specs.Answer.{held, asked, textOf, areasAfter, unanswered, answerOf}
+use Rattle.link.specs.Answer.{held, asked, textOf, areasAfter, answerOf}
 use Rattle.link.specs.Check.{checkOf, refusedText, actText, actOf}
 use Rattle.link.specs.Contract.{Heard, Gives, Acts}
 use Rattle.link.proofs.Answering.{silent-answer, heard-answer, silent-number}
-use Rattle.link.proofs.Outcomes.{handingOn, same-areas, gives-by}
+use Rattle.link.proofs.Outcomes.{handingOn, gives-by}
 
 pub check-first : (c : Call) → checkSilentOf c ≡ firstOf (checkEarly c ++ lateRows (c .sent .settings) (c .sent .frame))
 unfolding checkSilentOf
@@ -185,7 +186,7 @@ module _ (c : Call) (long : 1024 ≤ length (c .sent .reply)) {k : Checked} (che
       let o : actOf c ≡ doing c enough (Refused n) (k .sum) =
       long-act c enough ∙ ap (λ (x : Checked). doing c enough (x .asked) (x .sum)) (sym checked) ∙ ap (λ (a : Asked). doing c enough a (k .sum)) e in
       gives-by c _ r (handingOn (c .areas) (r .kept)) reply′ refl o (f .0) (f .1) (f .3)
-      (same-areas refl refl refl refl refl (ap (λ (x : Kept). x .used) (f .2)))
+      (equal-parts refl refl refl refl refl (ap (λ (x : Kept). x .used) (f .2)))
       g
 
   -- the check answered an order: the frame is heard, and orders that

@@ -2,4 +2,3 @@ pub mod Answering
 pub mod Carrying
 pub mod Outcomes
 pub mod Checking
-pub mod Backing

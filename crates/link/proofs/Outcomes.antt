@@ -22,6 +22,7 @@ use Rattle.writes.specs.Writes.{Written}
 use Rattle.calls.specs.declared.Kept.{Kept}
 use Rattle.calls.specs.declared.Told.{Told}
 use Rattle.calls.specs.Calls.{Areas, Call, Outcome, areasOf, areaIn, written}
+use Rattle.calls.proofs.Parts.{equal-parts}
 use Rattle.refusals.specs.Refusals.{journalFits, silentOf, toldOf}
 use Rattle.orders.specs.declared.Order.{Order}
 use Rattle.orders.specs.declared.Done.{Done}
@@ -34,11 +35,6 @@ use Rattle.link.specs.Answer.{held, asked, textOf, areasAfter, answerOf}
 use Rattle.link.specs.Contract.{Heard, accepted, Gives, Answers, Performs}
 use Rattle.link.proofs.Answering.{heard-answer}
 use Rattle.link.proofs.Carrying.{Fine, fine, ordered}
-
--- areas of equal parts
-pub same-areas : {p p′ c c′ n n′ f f′ j j′ : List ℕ} {k k′ : Kept} {s : Firsts} → p ≡ p′ → c ≡ c′ → n ≡ n′ → f ≡ f′ → j ≡ j′ → k .used ≡ k′ .used
-    → areasOf p c n f j k s ≡ areasOf p′ c′ n′ f′ j′ k′ s
-same-areas {s = s} p c n f j u = λ i. record { points = p i; columns = c i; integers = n i; flags = f i; journal = j i; kept = record { used = u i }; firsts = s }
 
 -- areas with other kept numbers
 abbrev pub handingOn : Areas → Kept → Areas
@@ -89,7 +85,7 @@ module _ (a : Areas) (h : Held) (tag start count : ℕ) (new area′ journal′ 
 
   pub written-so : replacing tag area′ a journal′ kept′ ≡ written h tag start count new a
   written-so =
-      same-areas (own (pointsOf h) (a .points) (in-area (kind-points h))) (own columnsOf (a .columns) (in-area (kind-columns h)))
+      equal-parts (own (pointsOf h) (a .points) (in-area (kind-points h))) (own columnsOf (a .columns) (in-area (kind-columns h)))
       (own (integersOf h) (a .integers) (in-area (kind-integers h)))
       (own (flagsOf h) (a .flags) (in-area (kind-flags h)))
       (w .journalled .bytes ∙ ap (λ (t : ℕ). areaOf (length (a .journal)) (added (length (a .journal)) (entriesIn h 0 (take (a .kept .used) (a .journal))) (entryFor t start (runOf (kindOf h tag) start count (areaIn tag a))))) (tag-of h tag))

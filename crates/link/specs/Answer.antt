@@ -1,7 +1,7 @@
--- Document 01, "Each message", "Refusal numbers" and "Journal", and document 02, requests a, f and l: what an answer and a step back leave.
+-- Document 01, "Each message", "Refusal numbers" and "Journal", and document 02, requests a, f and l: what an answer leaves.
 use Prim.Native.Nat.{ℕ}
 use mathlib.Core.Bool.{cond}
-use mathlib.Core.List.{List, []}
+use mathlib.Core.List.{List}
 use lib.Dec.{eqb}
 use Rattle.frames.specs.Frame.{replyOf, errorOf, normal}
 use Rattle.kinds.specs.declared.Held.{Held}
@@ -10,10 +10,8 @@ use Rattle.table.specs.declared.Message.{Message}
 use Rattle.messages.specs.declared.Asked.{Asked}
 use Rattle.messages.specs.declared.Asked.the-variants.{Refused, Order}
 use Rattle.messages.specs.Asked.{askedOf, numberGiven}
-use Rattle.calls.specs.declared.Told.{Told}
-use Rattle.calls.specs.declared.Told.the-variants.{Untested}
-use Rattle.calls.specs.Calls.{Areas, Call, Outcome, lengthsOf, areaIn, written, steppedBack}
-use Rattle.refusals.specs.Refusals.{silentOf, toldOf, backRefusalOf}
+use Rattle.calls.specs.Calls.{Areas, Call, Outcome, lengthsOf, areaIn, written, unanswered}
+use Rattle.refusals.specs.Refusals.{silentOf, toldOf}
 use Rattle.orders.specs.Orders.{rest, writes, newBytes, saidBy}
 
 -- what the board of a call holds, and what its frame asks
@@ -37,18 +35,9 @@ abbrev pub areasAfter : Call → Asked → Areas
 areasAfter c (Refused number) = c .areas
 areasAfter c (Order m start count) = storedBy (held c) m start count (rest (c .sent) m) (c .areas)
 
--- nothing is changed and nothing is replied
-abbrev pub unanswered : Told → ℕ → Areas → Outcome
-unanswered told number a = record { number = number; text = []; areas = a; sum = told }
-
 -- the answer to a call: where no refusal without a reply holds, what its frame asks is done
 unfoldable pub answerOf : Call → Outcome
 answerOf c =
     cond (eqb (silentOf c) 0)
     (record { number = numberGiven (asked c); text = textOf c (asked c); areas = areasAfter c (asked c); sum = toldOf c })
     (unanswered (toldOf c) (silentOf c) (c .areas))
-
--- "The step back tests 2, 3, 4, then 9", and 10 after 3 (02, a); it has no frame, so no sum is tested (02, f)
-unfoldable pub backOf : Areas → Outcome
-backOf a =
-    cond (eqb (backRefusalOf a) 0) (unanswered Untested 0 (steppedBack (heldIn (lengthsOf a)) a)) (unanswered Untested (backRefusalOf a) a)

@@ -10,10 +10,10 @@ use Rattle.messages.specs.declared.Asked.{Asked}
 use Rattle.messages.specs.declared.Asked.the-variants.{Refused, Order}
 use Rattle.messages.specs.Asked.{numberGiven}
 use Rattle.calls.specs.declared.Told.the-variants.{Untested}
-use Rattle.calls.specs.Calls.{Call, Outcome}
+use Rattle.calls.specs.Calls.{Call, Outcome, unanswered}
 use Rattle.refusals.specs.Refusals.{tooShort, checkSilentOf, checkToldOf}
 use Rattle.link.specs.declared.Checked.{Checked}
-use Rattle.link.specs.Answer.{asked, textOf, areasAfter, unanswered}
+use Rattle.link.specs.Answer.{asked, textOf, areasAfter}
 
 -- what a check answers: the refusal, or where none without a reply holds what the frame asks; and what the sum test said
 unfoldable pub checkOf : Call → Checked

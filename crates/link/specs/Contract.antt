@@ -8,12 +8,11 @@ use Rattle.digits.specs.Laid.{laid}
 use Rattle.calls.specs.declared.Told.{Told}
 use Rattle.calls.specs.Calls.{Areas, Call, Outcome}
 use Rattle.link.specs.declared.Answered.{Answered}
-use Rattle.link.specs.declared.Back.{Back}
 use Rattle.messages.specs.declared.Asked.the-variants as asks
 use Rattle.refusals.specs.Refusals.{silentOf, toldOf}
 use Rattle.orders.specs.declared.Order.{Order}
 use Rattle.orders.specs.declared.Done.{Done}
-use Rattle.link.specs.Answer.{held, asked, answerOf, backOf}
+use Rattle.link.specs.Answer.{held, asked, answerOf}
 use Rattle.link.specs.Check.{actOf}
 
 -- a call whose frame is heard, no refusal holding, and orders this
@@ -45,9 +44,3 @@ Acts = Gives actOf
 -- an order of a call that was carried out, with what is told of the sum beside it, is its answer
 abbrev pub Performs : Call → Done → Areas → List ℕ → Type 0
 Performs c done areas′ reply′ = Answers c (accepted done (toldOf c)) areas′ reply′
-
--- what a step back gives and leaves
-pub record StepsBack (a : Areas) (r : Back) (areas′ : Areas) : Type 0 where
-  pub number-is : r .number ≡ backOf a .number
-  pub kept-is : r .kept ≡ backOf a .areas .kept
-  pub areas-are : areas′ ≡ backOf a .areas

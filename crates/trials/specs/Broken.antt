@@ -10,11 +10,12 @@ use Rattle.digits.specs.Text.{text}
 use Rattle.kinds.specs.Kinds.{pointsTag, columnsTag, heldIn}
 use Rattle.journal.specs.Journal.{added, entryFor}
 use Rattle.calls.specs.declared.Told.the-variants.{Untested}
-use Rattle.calls.specs.Calls.{Areas, Sent, Call, Outcome, fresh, lengthsOf, putIn, oldEntry, withEntries}
+use Rattle.calls.specs.Calls.{Areas, Sent, Call, Outcome, fresh, lengthsOf, putIn, oldEntry, withEntries, unanswered}
 use Rattle.messages.specs.declared.Asked.{Asked}
 use Rattle.messages.specs.declared.Asked.the-variants.{Refused, Order}
 use Rattle.orders.specs.Orders.{writes}
-use Rattle.link.specs.Answer.{held, asked, unanswered, answerOf, backOf}
+use Rattle.link.specs.Answer.{held, asked, answerOf}
+use Rattle.back.specs.Back.{backOf}
 use Rattle.trials.specs.Cases.{holding, sending}
 use Rattle.trials.specs.Useless.{RefusesAll, StoresNothing, StoresFirst, honestBut, storesNothing, storesFirst, usedAll, usedMore}
 use Rattle.demands.specs.History.{Conduct, ours, Event, frame, stepBack, callOn, Past, past, entries, account, EveryHistory}

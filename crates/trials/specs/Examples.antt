@@ -17,8 +17,8 @@ use Rattle.axes.specs.declared.AxisRecord.{AxisRecord}
 use Rattle.axes.specs.Records.{zeroRecord}
 use Rattle.axes.specs.Run.{lentAxes}
 use Rattle.calls.specs.Calls.{Areas, Call, callOf, fresh}
-use Rattle.link.specs.Answer.{asked, answerOf, backOf}
-use Rattle.link.specs.Contract.{StepsBack}
+use Rattle.link.specs.Answer.{asked, answerOf}
+use Rattle.back.specs.Back.{backOf, StepsBack}
 use Rattle.board.specs.Calls.{codeOf, startOf, lengthOf, Receives}
 use Rattle.demands.specs.Refused.{SameError, asksWrite}
 use Rattle.trials.specs.Cases.{blank, bench, columnsHolding}

@@ -18,9 +18,9 @@ use Rattle.table.specs.declared.Named.the-variants.{Known, Unknown}
 use Rattle.messages.specs.Asked.{notHeld, numberGiven}
 use Rattle.calls.specs.declared.Told.{Told}
 use Rattle.calls.specs.declared.Told.the-variants.{Untested, Said}
-use Rattle.calls.specs.Calls.{Call, Outcome, fresh, putIn, withEntries, entriesOf, sumCode}
+use Rattle.calls.specs.Calls.{Call, Outcome, fresh, putIn, withEntries, entriesOf, sumCode, unanswered}
 use Rattle.refusals.specs.Refusals.{tooShort}
-use Rattle.link.specs.Answer.{held, asked, textOf, areasAfter, unanswered, answerOf}
+use Rattle.link.specs.Answer.{held, asked, textOf, areasAfter, answerOf}
 use Rattle.link.specs.Check.{checkOf, actOf}
 use Rattle.link.specs.Contract.{Acts}
 use Rattle.board.specs.Calls.{shown, CabinetChecks}

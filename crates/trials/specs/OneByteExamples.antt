@@ -14,8 +14,8 @@ use Rattle.frames.specs.declared.checks.Sum.{Sum}
 use Rattle.frames.specs.declared.checks.Sum.the-variants.{True, SwitchedOff, Wrong}
 use Rattle.frames.specs.Frame.{beforeSC, scIn, scOf, lowByte, sumTrue, closed}
 use Rattle.calls.specs.declared.Told.the-variants.{Untested, Said}
-use Rattle.calls.specs.Calls.{Call}
-use Rattle.link.specs.Answer.{unanswered, answerOf}
+use Rattle.calls.specs.Calls.{Call, unanswered}
+use Rattle.link.specs.Answer.{answerOf}
 use Rattle.demands.specs.History.{Conduct}
 use Rattle.demands.specs.TestCalls.{handed}
 use Rattle.demands.specs.Releases.{under}

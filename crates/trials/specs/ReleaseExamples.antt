@@ -13,12 +13,13 @@ use Rattle.digits.specs.Text.{text}
 use Rattle.frames.specs.Frame.{normal, stationIn, messageIn, hasTestID, sumTrue, sumOff, replyOf}
 use Rattle.frames.specs.declared.checks.Sum.the-variants.{Wrong}
 use Rattle.calls.specs.declared.Told.the-variants.{Said}
-use Rattle.calls.specs.Calls.{Areas, Sent, Call, Outcome, areaIn}
+use Rattle.calls.specs.Calls.{Areas, Sent, Call, Outcome, areaIn, unanswered}
 use Rattle.axes.specs.Records.{noAxes}
 use Rattle.orders.specs.Orders.{saidBy}
 use Rattle.messages.specs.declared.Asked.{Asked}
 use Rattle.messages.specs.declared.Asked.the-variants.{Refused, Order}
-use Rattle.link.specs.Answer.{held, asked, unanswered, answerOf, backOf}
+use Rattle.link.specs.Answer.{held, asked, answerOf}
+use Rattle.back.specs.Back.{backOf}
 use Rattle.demands.specs.History.{Conduct}
 use Rattle.demands.specs.Releases.{under, EitherSize, CapitalsOnly, Either, RepliesInCapitals, SameUnderTwo}
 use Rattle.trials.specs.Cases.{blank, sendingTo}

@@ -14,8 +14,9 @@ use Rattle.axes.specs.Records.{noAxes}
 use Rattle.messages.specs.Asked.{numberGiven}
 use Rattle.calls.specs.declared.Told.{Told}
 use Rattle.calls.specs.declared.Told.the-variants.{Untested, Said}
-use Rattle.calls.specs.Calls.{Sent, Call, Outcome, callOf, fresh}
-use Rattle.link.specs.Answer.{asked, textOf, areasAfter, unanswered, answerOf, backOf}
+use Rattle.calls.specs.Calls.{Sent, Call, Outcome, callOf, fresh, unanswered}
+use Rattle.link.specs.Answer.{asked, textOf, areasAfter, answerOf}
+use Rattle.back.specs.Back.{backOf}
 use Rattle.demands.specs.Refused.{SameError, asksWrite}
 use Rattle.demands.specs.History.{Conduct, ours, frame, stepBack}
 use Rattle.demands.specs.Releases.{under}

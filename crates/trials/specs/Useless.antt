@@ -16,11 +16,12 @@ use Rattle.table.specs.declared.Message.{Message}
 use Rattle.messages.specs.declared.Asked.{Asked}
 use Rattle.messages.specs.declared.Asked.the-variants.{Refused, Order}
 use Rattle.calls.specs.declared.Kept.{Kept}
-use Rattle.calls.specs.Calls.{Areas, Sent, Call, Outcome, areasOf, areaIn, putIn}
+use Rattle.calls.specs.Calls.{Areas, Sent, Call, Outcome, areasOf, areaIn, putIn, unanswered}
 use Rattle.link.specs.declared.Answered.{Answered}
 use Rattle.orders.specs.Orders.{rest, writes, newBytes}
-use Rattle.link.specs.Answer.{held, asked, unanswered, answerOf, backOf}
+use Rattle.link.specs.Answer.{held, asked, answerOf}
 use Rattle.link.specs.Contract.{Answers}
+use Rattle.back.specs.Back.{backOf}
 use Rattle.demands.specs.Refused.{asksWrite}
 use Rattle.demands.specs.History.{Conduct, entries, entryBy}
 use Rattle.demands.specs.Reading.{startOf, countOf, Host, allowed, asking, effectiveOf}

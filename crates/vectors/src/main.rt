@@ -1,6 +1,8 @@
 // Plays the second program's cases (second/README.md, "Vectors"), and writes a line for each call.
 use axes::AxisRecord;
 use axes::read_axes;
+use back::Back;
+use back::step_back;
 use calls::Kept;
 use calls::Settings;
 use calls::sum_code;
@@ -13,12 +15,10 @@ use lent::answer_lent;
 use libc::STDIN_FILENO;
 use libc::STDOUT_FILENO;
 use link::Answered;
-use link::Back;
 use link::Checked;
 use link::act;
 use link::answer;
 use link::check;
-use link::step_back;
 use messages::show;
 ghost use Prim.Native.Nat.{_+_, _≤_, _<_};
 ghost use lib.ListN.{length};

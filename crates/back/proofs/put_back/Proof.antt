@@ -1,10 +1,10 @@
 use mathlib.Core.Path.{refl, sym, ap, _∙_}
 use Rattle.kinds.specs.Kinds.{pointsTag, columnsTag, integersTag, flagsTag, sizeOf}
 use Rattle.kinds.proofs.Known.{kind-points, kind-columns, kind-integers, kind-flags}
-use Rattle.link.proofs.Backing.{restore-needs, same-puts}
+use Rattle.back.proofs.Backing.{restore-needs, same-puts}
 use borrow.Author.Needs.{needs}
-use Rattle.link.proofs.put_back.Statement.{statement}
-use Rattle.link.proofs.put_back.Tie as tie
+use Rattle.back.proofs.put_back.Statement.{statement}
+use Rattle.back.proofs.put_back.Tie as tie
 
 kind-requires : tie.Need-kind-requires
 kind-requires c κs = search needs

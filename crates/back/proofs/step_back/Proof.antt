@@ -2,10 +2,10 @@ use mathlib.Core.Path.{_≡_, refl, sym, _∙_}
 use native.Mathlib.Omega.{arith}
 use Rattle.calls.specs.Calls.{Areas, areasOf}
 use Rattle.refusals.specs.Refusals.{backRefusalOf}
-use Rattle.link.proofs.Backing.{back-first, can-step-back, stepped-refused, find-needs, put-needs, stepped}
+use Rattle.back.proofs.Backing.{back-first, can-step-back, stepped-refused, find-needs, put-needs, stepped}
 use borrow.Author.Needs.{needs}
-use Rattle.link.proofs.step_back.Statement.{statement}
-use Rattle.link.proofs.step_back.Tie as tie
+use Rattle.back.proofs.step_back.Statement.{statement}
+use Rattle.back.proofs.step_back.Tie as tie
 
 abbrev areas : tie.Start → Areas
 areas s =

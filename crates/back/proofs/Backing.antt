@@ -6,7 +6,7 @@ use mathlib.Core.List.{List, _++_}
 use native.Mathlib.Omega.{arith}
 use lib.Dec.{eqb}
 use lib.ListN.{length, take, drop, replicate}
-use borrow.Author.Tests.{eqb-true}
+use borrow.Author.Tests.{ne-eqb, eqb-true}
 use Rattle.kinds.specs.declared.Kind.{Kind}
 use Rattle.kinds.specs.declared.Held.{Held}
 use Rattle.kinds.specs.Kinds.{Sound, pointsOf, columnsOf, integersOf, flagsOf, kindOf, heldIn, sizeOf}
@@ -17,14 +17,23 @@ use Rattle.journal.specs.declared.Last.{Last}
 use Rattle.journal.proofs.Codec.{Bytes}
 use Rattle.journal.proofs.Back.{holds-back}
 use Rattle.messages.specs.Rows.{firstOf}
-use Rattle.calls.specs.Calls.{Areas, Outcome, areasOf, lengthsOf}
+use Rattle.calls.specs.declared.Told.the-variants.{Untested}
+use Rattle.calls.specs.Calls.{Areas, Outcome, areasOf, lengthsOf, unanswered, steppedBack}
 use Rattle.refusals.specs.Refusals.{backRows, backRefusalOf}
 use Rattle.refusals.proofs.Rows.{areas-pass, back-rows}
 use Rattle.refusals.proofs.Tested.{Points, Variables, Journal, points-fit, variables-fit, journal-fits, sound}
-use Rattle.link.specs.declared.Back.{Back}
-use Rattle.link.specs.Contract.{StepsBack}
-use Rattle.link.proofs.Answering.{refused-back, accepted-back}
-use Rattle.link.proofs.Outcomes.{same-areas}
+use Rattle.back.specs.declared.Back.{Back}
+use Rattle.back.specs.Back.{backOf, StepsBack}
+use Rattle.calls.proofs.Parts.{equal-parts}
+
+-- the step back's outcome
+pub refused-back : (a : Areas) (k : ℕ) → k ≡ backRefusalOf a → (k ≡ 0 → ⊥) → backOf a ≡ unanswered Untested k a
+unfolding backOf
+refused-back a k e n = rw (← e, ne-eqb k 0 n)
+
+pub accepted-back : (a : Areas) → backRefusalOf a ≡ 0 → backOf a ≡ unanswered Untested 0 (steppedBack (heldIn (lengthsOf a)) a)
+unfolding backOf
+accepted-back a e = rw e
 
 pub back-first : (a : Areas) → backRefusalOf a ≡ firstOf (backRows (lengthsOf a) (a .journal) (a .kept))
 unfolding backRefusalOf
@@ -114,7 +123,7 @@ module _ (a : Areas) (z : backRefusalOf a ≡ 0) {h : Held} (e : h ≡ heldIn (l
         let q = accepted-back a z in
         let w = holds-back h (a .journal) (a .kept .used) l bytes (ok .journal .within) (find-needs .1) s journal′ j in
         let same =
-        same-areas (same-puts (a .points) (p .0) (ap pointsOf e) entry-is) (same-puts (a .columns) (p .1) refl entry-is)
+        equal-parts (same-puts (a .points) (p .0) (ap pointsOf e) entry-is) (same-puts (a .columns) (p .1) refl entry-is)
         (same-puts (a .integers) (p .2) (ap integersOf e) entry-is)
         (same-puts (a .flags) (p .3) (ap flagsOf e) entry-is)
         (w .bytes ∙ ap (λ (x : Held). areaOf (length (a .journal)) (others (entriesIn x 0 (take (a .kept .used) (a .journal))))) e)
