@@ -219,17 +219,21 @@ fn changed_between(script: &mut Script) {
     script.look(&frame);
     script.used(6);
     script.act(&frame);
-    // Forbidden, then allowed; fitted, then not.
+    // Forbidden, then allowed.
     script.settings(Settings { unchecked: 0, ..SETTINGS });
     script.check(b"!9924E0012C0148@@\r\n");
     script.settings(SETTINGS);
     script.act(b"!9924E0012C0148@@\r\n");
+    points_changed_between(script);
+}
+
+/// The axis fitted, then not; fewer points lent, then all; the point stepped back, then written again.
+fn points_changed_between(script: &mut Script) {
     let point = command(SETTINGS.station, ["244003001", &point("10")].concat().as_bytes());
     script.check(&point);
     script.settings(Settings { fitted: 0x0F, ..SETTINGS });
     script.act(&point);
     script.settings(SETTINGS);
-    // Fewer points lent, then all.
     script.lend(Part::Points, 80);
     script.check(&point);
     script.lend(Part::Points, 120);
