@@ -32,6 +32,7 @@ use Rattle.link.specs.Check.{checkOf, actOf}
 use Rattle.link.proofs.Answering.{accepted}
 use Rattle.link.proofs.Carrying.{fine, areas-long}
 use Rattle.link.proofs.Checking.{checked-by, without-reply, short-act, long-act, same-act, same-gives}
+use Rattle.board.specs.Calls.{shown}
 use Rattle.board.proofs.Answered.{same-cabinet}
 use Rattle.demands.specs.History.{messageBy}
 use Rattle.demands.specs.Reading.{startOf, countOf}
@@ -41,9 +42,6 @@ use Rattle.demands.proofs.Refused.{number-given, changes-nothing}
 use Rattle.demands.proofs.Asking.{Took, took}
 use Rattle.demands.proofs.Sole.{one-answer, one-cabinet-answer}
 use Rattle.demands.proofs.Written.{areas-left, wrote, only-named}
-
-abbrev shown : Call → Shown
-shown c = ourPanel .check c .shown
 
 -- what is shown, by what a check answered
 number-shown : (a : Asked) → shownOf a .number ≡ numberGiven a

@@ -25,7 +25,7 @@ use Rattle.messages.proofs.Judged.{asked-from}
 use Rattle.calls.specs.declared.Told.{Told}
 use Rattle.calls.specs.declared.Told.the-variants.{Untested}
 use Rattle.calls.specs.Calls.{Areas, Call, Outcome, lengthsOf, unanswered}
-use Rattle.refusals.specs.Refusals.{axesFit, releaseFits, areaRows, checkRows, earlyRows, lateRows, silent, silentOf, toldOf, backRows, backRefusalOf}
+use Rattle.refusals.specs.Refusals.{axesFit, releaseFits, areaRows, checkRows, lateRows, silent, silentOf, toldOf, backRows, backRefusalOf}
 use Rattle.link.specs.Answer.{held, asked, areasAfter, textOf, answerOf}
 use Rattle.refusals.proofs.Rows.{AreasPass, past-areas, ownNumber, lateNumber, earlyNumber, early-rows, silent-is, told-untested}
 use Rattle.link.proofs.Answering.{silent-answer, frame-number, asked-number, heard-number}
@@ -98,7 +98,7 @@ number-given P (r ∷ rs) z h = either P (r .holds) (λ _. h .0) (λ _. number-g
 
 -- the numbers of a frame: to 13 without a reply, and from 101 on
 pub silent-low : (c : Call) → silentOf c ≤ 13
-unfolding silentOf earlyRows checkRows areaRows lateRows
+unfolding silentOf checkRows areaRows lateRows
 silent-low c =
     number-given (λ (k : ℕ). k ≤ 13) (silent c) (omega arith)
     (omega arith, (omega arith, (omega arith, (omega arith, (omega arith, (omega arith, (omega arith, (omega arith, (omega arith, (omega arith, (omega arith, tt)))))))))))
@@ -113,7 +113,7 @@ abbrev Listed : List ℕ → ℕ → Type 0
 Listed ns n = among n ns ≡ true
 
 silent-listed : (c : Call) → Listed frameNumbers (silentOf c)
-unfolding silentOf earlyRows checkRows areaRows lateRows
+unfolding silentOf checkRows areaRows lateRows
 silent-listed c = number-given (Listed frameNumbers) (silent c) refl (refl, (refl, (refl, (refl, (refl, (refl, (refl, (refl, (refl, (refl, (refl, tt)))))))))))
 
 asked-listed : (held : Held) (fitted release : ℕ) (n : Named) (content : List ℕ) → Listed frameNumbers (firstOf (askedRows held fitted release n content))

@@ -22,7 +22,7 @@ use Rattle.messages.specs.Asked.{askedRows, numberGiven}
 use Rattle.calls.specs.declared.Told.{Told}
 use Rattle.calls.specs.declared.Told.the-variants.{Untested, Said}
 use Rattle.calls.specs.Calls.{Call, Outcome, lengthsOf, unanswered}
-use Rattle.refusals.specs.Refusals.{areaRows, checkRows, earlyRows, lateRows, early, silentOf, toldOf}
+use Rattle.refusals.specs.Refusals.{areaRows, checkRows, lateRows, early, silentOf, toldOf}
 use Rattle.refusals.proofs.Rows.{EarlyPassed, forbidden, lateNumber, earlyNumber, early-rows, late-rows, late-by, past-early, early-passed, early-given, silent-is, call-passed, told-untested, told-said, same-told-after}
 use Rattle.link.specs.Answer.{held, asked, textOf, areasAfter, answerOf}
 use Rattle.link.proofs.Answering.{silent-answer, heard-answer, asked-number}
@@ -92,7 +92,7 @@ early-silent c n =
 before-is : (c : Call)
     → silentBefore c
     ≡ earlyOf c (cond (not (sumTrue (c .sent .settings .release) (c .sent .frame) || sumOff (c .sent .frame))) 7 (cond (not (stationPasses (c .sent .settings .release) (c .sent .settings .station) (c .sent .frame))) 8 0))
-unfolding earlyRows checkRows areaRows
+unfolding checkRows areaRows
 before-is c = refl
 
 allowed-silent : (c : Call) → silentOf (allowing true c) ≡ silentBefore c
@@ -165,7 +165,7 @@ number-of c k l e = ap (λ (o : Outcome). o .number) (silent-answer c k (sym e) 
 
 -- where '@@' is forbidden
 forbidden-rule : Forbidden ours
-unfolding earlyRows checkRows areaRows
+unfolding checkRows areaRows
 forbidden-rule c o =
     silent-answer off (silentOf off) refl some
     ∙ (λ i. unanswered (toldOf c) (is i) (c .areas))
@@ -221,7 +221,7 @@ others-same c n = go (eqb (silentOf off) 0) refl
 
 -- the numbers of the tests before the sum, and of those from it on
 early-listed : (c : Call) → (firstOf (early c) ≡ 0 → ⊥) → among (firstOf (early c)) earlyNumbers ≡ true
-unfolding earlyRows checkRows areaRows
+unfolding checkRows areaRows
 early-listed c =
     number-given (λ (k : ℕ). (k ≡ 0 → ⊥) → among k earlyNumbers ≡ true) (early c) (λ n. absurd (n refl))
     (λ _. refl, (λ _. refl, (λ _. refl, (λ _. refl, (λ _. refl, (λ _. refl, (λ _. refl, (λ _. refl, tt))))))))

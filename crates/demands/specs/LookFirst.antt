@@ -9,7 +9,7 @@ use Rattle.kinds.specs.Kinds.{kindOf, runOf}
 use Rattle.table.specs.declared.Message.{Message}
 use Rattle.table.specs.declared.Named.the-variants.{Known}
 use Rattle.messages.specs.declared.Shown.{Shown}
-use Rattle.messages.specs.Shown.{namesRun, shownOf}
+use Rattle.messages.specs.Shown.{namesRun}
 use Rattle.calls.specs.declared.Told.{Told}
 use Rattle.calls.specs.declared.Told.the-variants.{Untested}
 use Rattle.calls.specs.Calls.{Areas, Call, Outcome, callOf, areaIn, written}
@@ -19,7 +19,7 @@ use Rattle.link.specs.declared.Answered.{Answered}
 use Rattle.link.specs.Answer.{held, answerOf}
 use Rattle.link.specs.Check.{checkOf, actOf}
 use Rattle.link.specs.Contract.{Answers, Acts}
-use Rattle.board.specs.Calls.{CabinetAnswers, CabinetActs, CabinetChecks}
+use Rattle.board.specs.Calls.{shown, CabinetAnswers, CabinetActs, CabinetChecks}
 use Rattle.demands.specs.History.{messageBy}
 use Rattle.demands.specs.Reading.{startOf, countOf}
 use Rattle.demands.specs.Survive.{Outside}
@@ -37,7 +37,7 @@ pub record Panel : Type 0 where
 
 -- the board's own, that its contracts cite
 abbrev pub ourPanel : Panel
-ourPanel = record { check = λ c. record { shown = shownOf (checkOf c .asked); sum = checkOf c .sum }; act = actOf; answer = answerOf }
+ourPanel = record { check = λ c. record { shown = shown c; sum = checkOf c .sum }; act = actOf; answer = answerOf }
 
 -- a call with this reply area
 abbrev pub replyingIn : List ℕ → Call → Call

@@ -21,7 +21,7 @@ use Rattle.calls.specs.declared.Told.{Told}
 use Rattle.calls.specs.declared.Told.the-variants.{Untested}
 use Rattle.calls.specs.Calls.{Areas, Call, Outcome, callOf, lengthsOf, unanswered}
 use Rattle.calls.proofs.Parts.{equal-parts}
-use Rattle.refusals.specs.Refusals.{tooShort, lateRows, earlyRows, silentOf, toldAfter, toldOf, early, checkEarly, checkSilentOf, checkToldOf}
+use Rattle.refusals.specs.Refusals.{tooShort, lateRows, silentOf, toldAfter, toldOf, early, checkEarly, checkSilentOf, checkToldOf}
 use Rattle.refusals.proofs.Rows.{passed, checked-rows, told-untested}
 use Rattle.refusals.proofs.Tested.{shaped-long, sound}
 use Rattle.orders.specs.declared.Order as order
@@ -92,11 +92,10 @@ error-text station n h = rw (le-ltb n 101 h)
 -- with a reply area that is too short
 module _ (c : Call) (e : tooShort (length (c .sent .reply)) ≡ true) where
   short-early : firstOf (early c) ≡ 1
-  unfolding earlyRows
   short-early = rw e
 
   short-silent : silentOf c ≡ 1
-  unfolding silentOf earlyRows
+  unfolding silentOf
   short-silent = rw e
 
   pub short-act : actOf c ≡ unanswered Untested 1 (c .areas)
@@ -114,11 +113,10 @@ module _ (c : Call) (e : tooShort (length (c .sent .reply)) ≡ true) where
 -- and with one that is long enough: the tests of an answer are those of a check
 module _ (c : Call) (e : tooShort (length (c .sent .reply)) ≡ false) where
   pub long-silent : silentOf c ≡ checkSilentOf c
-  unfolding silentOf checkSilentOf earlyRows
+  unfolding silentOf checkSilentOf
   long-silent = rw e
 
   long-early : firstOf (early c) ≡ firstOf (checkEarly c)
-  unfolding earlyRows
   long-early = rw e
 
   pub long-told : toldOf c ≡ checkToldOf c

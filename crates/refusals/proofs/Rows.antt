@@ -3,7 +3,7 @@ use Prim.Native.Nat.{ℕ, _+_, _≤_, _<_}
 use mathlib.Core.Path.{_≡_, refl, sym, ap₂, _∙_}
 use mathlib.Core.Bool.{Bool, true, false, cond, not, _&&_}
 use mathlib.Core.Logic.{_⊎_, inl, inr}
-use mathlib.Core.List.{List, _++_}
+use mathlib.Core.List.{List, _∷_, _++_}
 use native.Mathlib.Omega.{arith}
 use lib.Dec.{ltb, eqb}
 use lib.ListN.{length}
@@ -11,7 +11,7 @@ use borrow.Author.Tests.{eq-eqb, ne-eqb}
 use Rattle.digits.proofs.Bools.{was-not}
 use Rattle.frames.specs.declared.checks.Sum.{Sum}
 use Rattle.frames.specs.Frame.{contentIn, shaped, sumSaid, isOff, isWrong, stationPasses}
-use Rattle.messages.specs.Rows.{firstOf}
+use Rattle.messages.specs.Rows.{_when_, firstOf}
 use Rattle.table.specs.Table.{messageOf}
 use Rattle.messages.specs.Asked.{askedRows}
 use Rattle.axes.specs.declared.Axes.{Axes}
@@ -22,7 +22,7 @@ use Rattle.kinds.specs.declared.Lengths.{Lengths}
 use Rattle.kinds.specs.Kinds.{heldIn}
 use Rattle.calls.specs.Calls.{Call, lengthsOf}
 use Rattle.refusals.proofs.Tested.{shaped-long}
-use Rattle.refusals.specs.Refusals.{pointsFit, variablesFit, journalFits, axesFit, releaseFits, areaRows, checkRows, earlyRows, lateRows, silentOf, early, toldAfter, toldOf, refusalOf, backRows}
+use Rattle.refusals.specs.Refusals.{pointsFit, variablesFit, journalFits, axesFit, releaseFits, areaRows, checkRows, lateRows, tooShort, silentOf, early, toldAfter, toldOf, refusalOf, backRows}
 
 -- the areas' four, in the order tested, and what comes behind them
 abbrev pub four : Bool → Bool → Bool → Bool → ℕ → ℕ
@@ -132,8 +132,8 @@ module _ (reply : ℕ) (frame : List ℕ) (axes : Axes) (settings : Settings) (l
   abbrev pub silentNumber : ℕ → ℕ
   silentNumber k = earlyNumber (lateNumber settings frame k)
 
-  pub early-rows : firstOf (earlyRows reply frame axes settings lengths journal kept) ≡ earlyNumber 0
-  unfolding earlyRows checkRows areaRows
+  pub early-rows : firstOf ((1 when (tooShort reply)) ∷ checkRows frame axes settings lengths journal kept) ≡ earlyNumber 0
+  unfolding checkRows areaRows
   early-rows = refl
 
   -- nothing before the sum refuses
@@ -227,12 +227,12 @@ abbrev pub CallPassed : Call → Type 0
 CallPassed c = Passed (length (c .sent .reply)) (c .sent .frame) (c .sent .axes) (c .sent .settings) (lengthsOf (c .areas)) (c .areas .journal) (c .areas .kept)
 
 pub silent-is : (c : Call) → silentOf c ≡ numberOf c 0
-unfolding silentOf earlyRows checkRows areaRows lateRows
+unfolding silentOf checkRows areaRows lateRows
 silent-is c = refl
 
 pub refusal-is : (c : Call)
     → refusalOf c ≡ numberOf c (firstOf (askedRows (heldIn (lengthsOf (c .areas))) (c .sent .settings .fitted) (c .sent .settings .release) (messageOf (c .sent .settings .release) (c .sent .frame)) (contentIn (c .sent .frame))))
-unfolding refusalOf earlyRows checkRows areaRows lateRows
+unfolding refusalOf checkRows areaRows lateRows
 refusal-is c = refl
 
 pub call-passed : (c : Call) → silentOf c ≡ 0 → CallPassed c

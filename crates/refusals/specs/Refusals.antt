@@ -22,6 +22,10 @@ use Rattle.kinds.specs.declared.Lengths.{Lengths}
 use Rattle.kinds.specs.declared.Firsts.{Firsts}
 use Rattle.calls.specs.Calls.{Areas, Call, lengthsOf}
 
+-- 1: "reply area under 1,024"
+abbrev pub tooShort : ℕ → Bool
+tooShort reply = ltb reply 1024
+
 -- 2: the points area is "a multiple of 40 from 40 to 60,000"
 unfoldable pub pointsFit : ℕ → Bool
 pointsFit points = eqb (points % 40) 0 && (leb 40 points && leb points 60000)
@@ -73,14 +77,6 @@ checkRows frame axes settings lengths journal kept =
     ∷ (6 when (not (shaped frame)))
     ∷ [])
 
--- 1: "reply area under 1,024"
-abbrev pub tooShort : ℕ → Bool
-tooShort reply = ltb reply 1024
-
--- 1 before these, with a reply area of so many bytes
-unfoldable pub earlyRows : ℕ → List ℕ → Axes → Settings → Lengths → List ℕ → Kept → List Row
-earlyRows reply frame axes settings lengths journal kept = (1 when (tooShort reply)) ∷ checkRows frame axes settings lengths journal kept
-
 -- 12 ("for '@@' where forbidden, in 7's place in the order", 02, f), 7 and 8: the sum and the station
 unfoldable pub lateRows : Settings → List ℕ → List Row
 lateRows settings frame =
@@ -89,10 +85,12 @@ lateRows settings frame =
     ∷ (8 when (not (stationPasses (settings .release) (settings .station) frame)))
     ∷ []
 
--- those of a call before the sum is tested
+-- those of a call before the sum is tested, by a check and, with 1 before them, by an answer and an act
+abbrev pub checkEarly : Call → List Row
+checkEarly c = checkRows (c .sent .frame) (c .sent .axes) (c .sent .settings) (lengthsOf (c .areas)) (c .areas .journal) (c .areas .kept)
+
 abbrev pub early : Call → List Row
-early c =
-    earlyRows (length (c .sent .reply)) (c .sent .frame) (c .sent .axes) (c .sent .settings) (lengthsOf (c .areas)) (c .areas .journal) (c .areas .kept)
+early c = (1 when (tooShort (length (c .sent .reply)))) ∷ checkEarly c
 
 -- and all of a frame's refusals without a reply
 abbrev pub silent : Call → List Row
@@ -108,10 +106,7 @@ toldAfter earlier release frame = cond (eqb earlier 0) (Said (sumSaid release fr
 abbrev pub toldOf : Call → Told
 toldOf c = toldAfter (firstOf (early c)) (c .sent .settings .release) (c .sent .frame)
 
--- the same of a check, whatever the reply area: what it tests before the sum, its refusal without a reply, and what it tells of the sum (02, g)
-abbrev pub checkEarly : Call → List Row
-checkEarly c = checkRows (c .sent .frame) (c .sent .axes) (c .sent .settings) (lengthsOf (c .areas)) (c .areas .journal) (c .areas .kept)
-
+-- of a check, whatever the reply area: its refusal without a reply, and what it tells of the sum (02, g)
 unfoldable pub checkSilentOf : Call → ℕ
 checkSilentOf c = firstOf (checkEarly c ++ lateRows (c .sent .settings) (c .sent .frame))
 

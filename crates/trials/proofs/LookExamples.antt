@@ -1,17 +1,14 @@
 -- The examples of looking first, by computing.
 use Prim.Native.Nat.{ℕ, _≤_}
 use mathlib.Core.Path.{_≡_, refl, sym, ap, _∙_, subst}
-use mathlib.Core.Bool.{false, cond}
+use mathlib.Core.Bool.{cond}
 use mathlib.Core.List.{List}
 use native.Mathlib.Omega.{arith}
 use lib.ListN.{length, getD, replicate}
 use borrow.Author.Tests.{leb-true}
-use Rattle.kinds.specs.Kinds.{pointsTag, columnsTag, runOf}
-use Rattle.table.specs.declared.Follows.the-variants.{Nothing, RunBytes}
-use Rattle.table.specs.declared.Action.the-variants.{CountPoints, ClearRun, ChangeRun}
+use Rattle.kinds.specs.Kinds.{columnsTag, runOf}
 use Rattle.table.specs.declared.Message.{Message}
 use Rattle.table.specs.declared.Named.the-variants.{Known}
-use Rattle.table.specs.Table.{row}
 use Rattle.messages.specs.Shown.{namesRun}
 use Rattle.calls.specs.Calls.{Areas, Call, Outcome, areaIn, written, sumCode}
 use Rattle.orders.specs.Orders.{writes}
@@ -19,6 +16,7 @@ use Rattle.link.specs.Answer.{held}
 use Rattle.demands.specs.Reading.{startOf, countOf}
 use Rattle.demands.specs.Survive.{Outside}
 use Rattle.demands.specs.LookFirst.{Look, kindNamed, bytesSaid}
+use Rattle.demands.proofs.Commands.{counting, clearing, changing}
 use Rattle.trials.specs.LookExamples.{looked, replying, LookExamples, spoilsBeside, notTheLast, LookBroken}
 use Rattle.trials.proofs.Computing.{a-call}
 
@@ -38,16 +36,6 @@ look-examples =
       act-met = λ c. record { number-is = refl; length-is = refl; kept-is = refl; sum-is = refl; areas-are = refl; reply-is = refl };
       check-met = λ c. record { number-is = refl; sum-is = refl; message-is = refl; start-is = refl; count-is = refl };
     }
-
--- the rows of the messages below
-abbrev counting : Message
-counting = row 0x208 0 0 0 pointsTag Nothing CountPoints false
-
-abbrev clearing : Message
-clearing = row 0x246 0 3 3 pointsTag Nothing ClearRun false
-
-abbrev changing : Message
-changing = row 0x24E 2 3 2 columnsTag RunBytes ChangeRun false
 
 same-row : {r m : Message} → Known r ≡ Known m → r ≡ m
 same-row e = cc
