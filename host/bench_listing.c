@@ -4,8 +4,9 @@
  * The input is received in pieces of every length, found, answered, then stepped back and queried. Then
  * test calls with line ends in them are received so, integer variables and flags are written, queried and
  * stepped back, frames in small letters are answered under each cabinet release, and frames with true and
- * wrong SCs and '@@' with that allowed and forbidden; at last frames are checked and then acted on. Exits 0
- * where all is as the listing and the documents say, 1 at the first difference.
+ * wrong SCs and '@@' with that allowed and forbidden; then frames are checked and then acted on; at last the
+ * count of effective points is kept, replied and refused. Exits 0 where all is as the listing and the
+ * documents say, 1 at the first difference.
  */
 #include "cabinet.h"
 
@@ -86,13 +87,14 @@ static int variables_are(int integers_written, int flags_written)
            is_then_zero(board.flags, sizeof board.flags, flags, flags_written ? sizeof flags : 0);
 }
 
-/* Points, journal and used length are as after the write (1) or fresh (0); all else is fresh. */
+/* Points, journal, used length and count are as after the write (1) or fresh (0); all else is fresh. */
 static int areas_are(int written)
 {
     return is_then_zero(points, sizeof points, point_1, written ? sizeof point_1 : 0) &&
            is_then_zero(board.columns, sizeof board.columns, board.columns, 0) &&
            is_then_zero(journal, sizeof journal, entry, written ? sizeof entry : 0) && variables_are(0, 0) &&
-           is_then_zero(board.axes, sizeof board.axes, board.axes, 0) && board.used == (written ? 45u : 0u);
+           is_then_zero(board.axes, sizeof board.axes, board.axes, 0) && board.used == (written ? 45u : 0u) &&
+           board.effective == (written ? 1u : 0u);
 }
 
 static void start_fresh(void)
@@ -104,6 +106,7 @@ static void start_fresh(void)
     memset(board.flags, 0, sizeof board.flags);
     memset(board.axes, 0, sizeof board.axes);
     board.used = 0;
+    board.effective = 0;
     held = 0;
     sent_length = 0;
 }
@@ -459,6 +462,79 @@ static int play_looking(void)
     return 0;
 }
 
+static int count_failed(const char *what)
+{
+    fprintf(stderr, "kept count: %s\n", what);
+    return 1;
+}
+
+/* Point 2 and then points 1 and 2, of axis 1; and what 208H replies. */
+static const char write_one[] = "!9924400200101001E001E00640000C350@@\r\n";
+static const char write_two[] = "!9924400100201001E001E00640000C35001001E001E00640000C350@@\r\n";
+static const char clear_two[] = "!9924600100252\r\n";
+
+/* One frame that leaves this count, which 208H then replies. */
+static int leaves(const char *command, enum cabinet_refusal number, const char *expected, size_t effective,
+                  const char *replied)
+{
+    return answers(command, number, expected) && board.effective == effective &&
+           answers("!992082D\r\n", CABINET_ACCEPTED, replied) && board.effective == effective;
+}
+
+/* Over an empty slot, over both, a clear of both; then stepped back, one after the other. */
+static int keeps_the_count(void)
+{
+    return leaves(write_one, CABINET_ACCEPTED, "#9924400200152\r\n", 1, "#99208001C0\r\n") &&
+           leaves(write_two, CABINET_ACCEPTED, "#9924400100252\r\n", 2, "#99208002C1\r\n") &&
+           leaves(clear_two, CABINET_ACCEPTED, "#9924631\r\n", 0, "#99208000BF\r\n") &&
+           steps_back(CABINET_ACCEPTED) && board.effective == 2 &&
+           steps_back(CABINET_ACCEPTED) && board.effective == 1 &&
+           leaves("!9924E0012C0130@@\r\n", CABINET_ACCEPTED, "#9924E40\r\n", 1, "#99208001C0\r\n") &&
+           steps_back(CABINET_ACCEPTED) && board.effective == 1 &&
+           steps_back(CABINET_ACCEPTED) && areas_are(0);
+}
+
+/* A count that isn't the slots': nothing is written and nothing stepped back; 208H replies it up to N. */
+static int refuses_counts(void)
+{
+    static const size_t wrong[] = {0, 2, POINTS_HELD, POINTS_HELD + 1, 257, SIZE_MAX};
+    size_t i;
+    if (!answers(write_one, CABINET_ACCEPTED, "#9924400200152\r\n"))
+        return 0;
+    for (i = 0; i < sizeof wrong / sizeof wrong[0]; i++) {
+        board.effective = wrong[i];
+        if (!tells(write_two, CABINET_REFUSED_EFFECTIVE_COUNT, "", CABINET_SUM_SWITCHED_OFF) ||
+            !tells("!99244@@\r\n", CABINET_REFUSED_EFFECTIVE_COUNT, "", CABINET_SUM_SWITCHED_OFF) ||
+            !shows(clear_two, CABINET_REFUSED_EFFECTIVE_COUNT, 0, 0, 0, CABINET_SUM_TRUE) ||
+            !does(clear_two, CABINET_REFUSED_EFFECTIVE_COUNT, "", CABINET_SUM_TRUE) ||
+            !steps_back(CABINET_REFUSED_EFFECTIVE_COUNT) ||
+            !tells("!98246001002@@\r\n", CABINET_REFUSED_STATION, "", CABINET_SUM_SWITCHED_OFF) ||
+            !answers("!9924B00025919C\r\n", CABINET_ACCEPTED, "#9924B3D\r\n") || board.effective != wrong[i])
+            return 0;
+        board.effective = 1;
+        if (!steps_back(CABINET_ACCEPTED) || board.effective != 1)
+            return 0;
+    }
+    board.effective = POINTS_HELD;
+    if (!answers("!992082D\r\n", CABINET_ACCEPTED, "#992081F4DA\r\n"))
+        return 0;
+    board.effective = POINTS_HELD + 1;
+    if (!answers("!992082D\r\n", CABINET_REFUSED_EFFECTIVE_COUNT, "") || board.effective != POINTS_HELD + 1)
+        return 0;
+    board.effective = 1;
+    return steps_back(CABINET_ACCEPTED) && areas_are(0);
+}
+
+static int play_counts(void)
+{
+    start_fresh();
+    if (!keeps_the_count())
+        return count_failed("written, cleared and stepped back");
+    if (!refuses_counts())
+        return count_failed("refused");
+    return 0;
+}
+
 int main(void)
 {
     size_t piece;
@@ -468,7 +544,8 @@ int main(void)
     for (piece = 1; piece < sizeof test_calls; piece++)
         if (play_test_calls(piece) != 0)
             return 1;
-    if (play_variables() != 0 || play_releases() != 0 || play_sums() != 0 || play_looking() != 0)
+    if (play_variables() != 0 || play_releases() != 0 || play_sums() != 0 || play_looking() != 0 ||
+        play_counts() != 0)
         return 1;
     printf("bench listing: every byte as document 01 has it, in pieces of 1 to %lu\n",
            (unsigned long)(sizeof input - 1));
@@ -478,5 +555,6 @@ int main(void)
     printf("small letters: refused under release 1, accepted under release 2, replied in capitals\n");
     printf("sums: true, switched off and wrong told, '@@' accepted where it is allowed and refused where not\n");
     printf("looking first: checks show what acting then does, or its refusal, and leave every byte\n");
+    printf("kept count: true after writes, clears and steps back, replied by 208H, refused where it isn't\n");
     return 0;
 }

@@ -11,7 +11,8 @@
  * write finds the same entries before it; only its old bytes are then the ones it wrote. Where a journal
  * is full of entries as long as the write's own, one is dropped and one is added, and it is as full as
  * before. Where other entries are dropped, and before a step back, the journal's bytes are put back. What
- * putting back costs is timed alone and taken off.
+ * putting back costs is timed alone and taken off. Points aren't put back, and so the count of effective ones
+ * isn't: each call is handed the one that the last handed back.
  */
 #define _POSIX_C_SOURCE 199309L /* clock_gettime */
 #include "cabinet.h"
@@ -53,20 +54,20 @@
 #undef plain_step_back
 
 typedef uint16_t answer_call(const uint8_t *, size_t, uint8_t *, size_t, uint8_t *, size_t, uint8_t *, size_t,
-                             uint8_t *, size_t, uint8_t *, size_t, size_t *, const uint8_t *, size_t,
-                             uint8_t, uint8_t, uint8_t, uint8_t, uint16_t, uint16_t, uint8_t *, size_t,
-                             size_t *, uint8_t *);
+                             uint8_t *, size_t, uint8_t *, size_t, size_t *, size_t *,
+                             const uint8_t *, size_t, uint8_t, uint8_t, uint8_t, uint8_t, uint16_t, uint16_t,
+                             uint8_t *, size_t, size_t *, uint8_t *);
 
 struct calls {
     uint8_t (*receive)(const uint8_t *, size_t, size_t *, size_t *, size_t *);
     answer_call *answer;
     uint16_t (*check)(const uint8_t *, size_t, const uint8_t *, size_t, const uint8_t *, size_t,
-                      const uint8_t *, size_t, const uint8_t *, size_t, const uint8_t *, size_t, size_t,
-                      const uint8_t *, size_t, uint8_t, uint8_t, uint8_t, uint8_t, uint16_t, uint16_t,
-                      uint8_t *, uint16_t *, size_t *, size_t *);
+                      const uint8_t *, size_t, const uint8_t *, size_t, const uint8_t *, size_t,
+                      size_t, size_t, const uint8_t *, size_t, uint8_t, uint8_t, uint8_t, uint8_t,
+                      uint16_t, uint16_t, uint8_t *, uint16_t *, size_t *, size_t *);
     answer_call *act;
     uint16_t (*step_back)(uint8_t *, size_t, uint8_t *, size_t, uint8_t *, size_t, uint8_t *, size_t,
-                          uint8_t *, size_t, size_t *, uint16_t, uint16_t);
+                          uint8_t *, size_t, size_t *, size_t *, uint16_t, uint16_t);
 };
 
 enum { ARCHIVE, PLAIN_O2, PLAIN_O3, MADE };
@@ -91,7 +92,8 @@ struct board {
     uint8_t flags[CABINET_FLAGS_BYTES];
     uint8_t journal[CABINET_MOST_JOURNAL_BYTES];
     uint8_t reply[CABINET_REPLY_BYTES];
-    uint16_t message; /* behind the areas, as the sum: these stay aligned */
+    size_t effective; /* behind the areas, as message and sum: these stay aligned */
+    uint16_t message;
     uint8_t sum;
 };
 
@@ -124,21 +126,22 @@ static unsigned make_call(const struct calls *calls)
         return (trial.kind == ANSWER ? calls->answer : calls->act)(
             trial.handed, trial.handed_length, work.points, CABINET_POINTS_BYTES(trial.held),
             work.columns, CABINET_COLUMNS_BYTES, work.integers, CABINET_INTEGERS_BYTES,
-            work.flags, CABINET_FLAGS_BYTES, work.journal, trial.journal_length, &work.used, trial.axes,
-            CABINET_AXES_BYTES, FITTED, STATION, RELEASE, UNCHECKED, FIRST_INTEGER, FIRST_FLAG,
+            work.flags, CABINET_FLAGS_BYTES, work.journal, trial.journal_length,
+            &work.used, &work.effective, trial.axes, CABINET_AXES_BYTES,
+            FITTED, STATION, RELEASE, UNCHECKED, FIRST_INTEGER, FIRST_FLAG,
             work.reply, CABINET_REPLY_BYTES, &work.reply_length, &work.sum);
     if (trial.kind == CHECK)
         return calls->check(trial.handed, trial.handed_length, work.points,
                             CABINET_POINTS_BYTES(trial.held), work.columns, CABINET_COLUMNS_BYTES,
                             work.integers, CABINET_INTEGERS_BYTES, work.flags, CABINET_FLAGS_BYTES,
-                            work.journal, trial.journal_length, work.used, trial.axes,
+                            work.journal, trial.journal_length, work.used, work.effective, trial.axes,
                             CABINET_AXES_BYTES, FITTED, STATION, RELEASE, UNCHECKED,
                             FIRST_INTEGER, FIRST_FLAG, &work.sum, &work.message, &work.start, &work.count);
     if (trial.kind == STEP_BACK)
         return calls->step_back(work.points, CABINET_POINTS_BYTES(trial.held),
                                 work.columns, CABINET_COLUMNS_BYTES,
                                 work.integers, CABINET_INTEGERS_BYTES, work.flags, CABINET_FLAGS_BYTES,
-                                work.journal, trial.journal_length, &work.used,
+                                work.journal, trial.journal_length, &work.used, &work.effective,
                                 FIRST_INTEGER, FIRST_FLAG);
     return calls->receive(trial.handed, trial.handed_length, &work.start, &work.length, &work.drop);
 }
@@ -170,15 +173,23 @@ static void draw(uint8_t *bytes, size_t count)
         bytes[i] = drawn();
 }
 
+/* No slot holds a point. */
+static void draw_no_points(void)
+{
+    memset(built.points, 0, sizeof built.points);
+    built.effective = 0;
+}
+
 /* Every so manyth slot holds an eight-axis point, the others are 00. */
 static void draw_points(size_t every)
 {
     size_t i;
-    memset(built.points, 0, sizeof built.points);
+    draw_no_points();
     for (i = every - 1; i < trial.held; i += every) {
         draw(built.points + CABINET_SLOT_BYTES * i, CABINET_SLOT_BYTES);
         built.points[CABINET_SLOT_BYTES * i] = FITTED;
         built.points[CABINET_SLOT_BYTES * i + 1] = 0;
+        built.effective++;
     }
 }
 
@@ -306,6 +317,8 @@ static void compare(const struct board *one, const struct board *other)
 {
     if (one->used != other->used || one->reply_length != other->reply_length || one->sum != other->sum)
         fail("another used length, reply's length or sum");
+    if (one->effective != other->effective)
+        fail("another count of effective points");
     if (one->start != other->start || one->length != other->length || one->drop != other->drop)
         fail("another place was found");
     if (one->message != other->message || one->count != other->count)
@@ -497,6 +510,14 @@ static void point_count(size_t held)
     run_frame(CABINET_ACCEPTED, 13);
 }
 
+static void point_count_of_none(size_t held)
+{
+    begin("208H, no point effective", held);
+    draw_no_points();
+    say("!99208");
+    run_frame(CABINET_ACCEPTED, 13);
+}
+
 static void full_list(size_t held)
 {
     begin("209H, 12 eight-axis points, the first ones", held);
@@ -618,6 +639,14 @@ static void unknown_message(size_t held)
     run_frame(CABINET_REFUSED_MESSAGE, CABINET_ERROR_REPLY_BYTES);
 }
 
+static void wrong_count(size_t held)
+{
+    begin("refused 11: 244H, 1 eight-axis point, a count that isn't true", held);
+    built.effective--;
+    say_points(7, 1);
+    run_frame(CABINET_REFUSED_EFFECTIVE_COUNT, 0);
+}
+
 static void not_held(size_t held)
 {
     begin("refused 106: 209H beyond N", held);
@@ -712,6 +741,14 @@ static void test_call_full_of_columns(size_t held)
 
 /* ---- steps back ---- */
 
+/* All slots are looked at, though none changes. */
+static void back_one_column(size_t held)
+{
+    begin("step back, 1 column, the only entry", held);
+    add_entry(COLUMNS_TAG, 300, 1);
+    run_back();
+}
+
 static void back_to_empty(size_t held)
 {
     begin("step back, 12 points, the only entry", held);
@@ -791,13 +828,14 @@ static void find_test_calls(void)
 }
 
 static void (*const trials[])(size_t) = {
-    test_call, point_count, full_list, sparse_list, flag_query, integer_query, column_query, axis_status,
+    test_call, point_count, point_count_of_none, full_list, sparse_list, flag_query, integer_query,
+    column_query, axis_status,
     write_point, write_points, clear_points, clear_all, write_flag, write_integers, write_columns,
-    wrong_sum, unknown_message, not_held, wrong_pattern,
+    wrong_sum, wrong_count, unknown_message, not_held, wrong_pattern,
     check_count, check_points, act_on_points,
     write_points_half_full, write_column_half_full, write_points_full, write_column_full,
     clear_full_of_columns, test_call_full_of_columns,
-    back_to_empty, back_from_full, back_from_full_of_columns
+    back_one_column, back_to_empty, back_from_full, back_from_full_of_columns
 };
 
 int main(void)

@@ -2,21 +2,22 @@
 #include "cabinet.h"
 #include "cabinet.h"
 
-#if CABINET_VERSION < 6
+#if CABINET_VERSION < 7
 #error "an older cabinet.h"
 #endif
 
 typedef uint8_t receive_call(const uint8_t *, size_t, size_t *, size_t *, size_t *);
 typedef uint16_t answer_call(const uint8_t *, size_t, uint8_t *, size_t, uint8_t *, size_t,
-                             uint8_t *, size_t, uint8_t *, size_t, uint8_t *, size_t, size_t *,
+                             uint8_t *, size_t, uint8_t *, size_t, uint8_t *, size_t, size_t *, size_t *,
                              const uint8_t *, size_t, uint8_t, uint8_t, uint8_t, uint8_t, uint16_t, uint16_t,
                              uint8_t *, size_t, size_t *, uint8_t *);
 typedef uint16_t check_call(const uint8_t *, size_t, const uint8_t *, size_t, const uint8_t *, size_t,
-                            const uint8_t *, size_t, const uint8_t *, size_t, const uint8_t *, size_t, size_t,
-                            const uint8_t *, size_t, uint8_t, uint8_t, uint8_t, uint8_t, uint16_t, uint16_t,
+                            const uint8_t *, size_t, const uint8_t *, size_t, const uint8_t *, size_t,
+                            size_t, size_t, const uint8_t *, size_t,
+                            uint8_t, uint8_t, uint8_t, uint8_t, uint16_t, uint16_t,
                             uint8_t *, uint16_t *, size_t *, size_t *);
 typedef uint16_t step_back_call(uint8_t *, size_t, uint8_t *, size_t, uint8_t *, size_t, uint8_t *, size_t,
-                                uint8_t *, size_t, size_t *, uint16_t, uint16_t);
+                                uint8_t *, size_t, size_t *, size_t *, uint16_t, uint16_t);
 typedef uint16_t answer_frame_call(struct cabinet *, const uint8_t *, size_t);
 typedef uint16_t check_frame_call(const struct cabinet *, const uint8_t *, size_t, struct cabinet_shown *);
 typedef uint16_t take_back_call(struct cabinet *);
@@ -63,6 +64,7 @@ int host_in_both_languages(const uint8_t *frame, size_t frame_length)
     switch (cabinet_take_back(&board)) {
     case CABINET_ACCEPTED: return 1;
     case CABINET_REFUSED_NO_WRITE_LEFT: return 2;
+    case CABINET_REFUSED_EFFECTIVE_COUNT: return board.effective == 0 ? 3 : 7;
     default: return 3;
     }
 }
@@ -75,6 +77,7 @@ typedef char lengths_are_right[
 typedef char numbers_are_right[
     CABINET_ACCEPTED == 0 && CABINET_REFUSED_NO_WRITE_LEFT == 9 && CABINET_REFUSED_MESSAGE == 101 &&
     CABINET_REFUSED_PATTERN == 107 && CABINET_REFUSED_VARIABLES == 10 && CABINET_REFUSED_SWITCHED_OFF == 12 &&
-    CABINET_REFUSED_RELEASE == 13 && CABINET_REFUSED_CHANGE_TYPE == 108 && CABINET_TOO_LONG == 3 &&
+    CABINET_REFUSED_EFFECTIVE_COUNT == 11 && CABINET_REFUSED_RELEASE == 13 &&
+    CABINET_REFUSED_CHANGE_TYPE == 108 && CABINET_TOO_LONG == 3 &&
     CABINET_SUM_UNTESTED == 0 && CABINET_SUM_TRUE == 1 && CABINET_SUM_SWITCHED_OFF == 2 &&
     CABINET_SUM_WRONG == 3 ? 1 : -1];

@@ -1,6 +1,6 @@
 /*
- * plain.c: the board's five calls, written plainly by hand from documents 01, 02 (requests a, c, f, g, l) and
- * 000.
+ * plain.c: the board's five calls, written plainly by hand from documents 01, 02 (requests a, b, c, f, g, l)
+ * and 000.
  *
  * No heap and no second buffers: replies are written where they are lent, old bytes go straight into
  * the journal. A frame is read once for its sum and once for its fields. Any bytes and any lengths
@@ -199,9 +199,11 @@ static size_t error_reply(uint8_t *reply, uint8_t station, uint16_t number)
 
 /* What the tests of a call's areas read and what they find: of the areas nothing is written through it. */
 struct seen {
+    const uint8_t *points;
     const uint8_t *journal;
     size_t journal_length;
     size_t used;
+    size_t effective; /* the kept count */
     size_t held; /* N */
     size_t first_integer, last_integer;
     size_t first_flag, last_flag;
@@ -281,6 +283,22 @@ static uint16_t test_areas(struct seen *seen, size_t points_length, size_t colum
     return seen->used <= seen->journal_length && walk_journal(seen) ? 0 : 4;
 }
 
+/* How many of so many slots have a pattern. */
+static size_t effective_among(const uint8_t *slot, size_t count)
+{
+    const uint8_t *end = slot + SLOT * count;
+    size_t effective = 0;
+    for (; slot < end; slot += SLOT)
+        effective += slot[0] != 0;
+    return effective;
+}
+
+/* Whether the kept count is the slots'; else a write, a clear and a step back are refused by 11. */
+static int count_is_true(const struct seen *seen)
+{
+    return seen->effective == effective_among(seen->points, seen->held);
+}
+
 /* Bytes of the oldest entries to be dropped, no more than needed, until `length` more fit. */
 static size_t to_drop(const struct areas *areas, size_t length)
 {
@@ -326,7 +344,12 @@ static void take_back(struct areas *areas)
 {
     uint8_t *entry = areas->journal + areas->seen.last;
     size_t length = areas->seen.used - areas->seen.last - ENTRY_HEAD;
-    memcpy(place_of(areas, entry[0], pair(entry + 3)), entry + ENTRY_HEAD, length);
+    uint8_t *place = place_of(areas, entry[0], pair(entry + 3));
+    if (entry[0] == POINTS_TAG) {
+        areas->seen.effective -= effective_among(place, length / SLOT);
+        areas->seen.effective += effective_among(entry + ENTRY_HEAD, length / SLOT);
+    }
+    memcpy(place, entry + ENTRY_HEAD, length);
     memset(entry, 0, areas->seen.journal_length - areas->seen.last);
     areas->seen.used = areas->seen.last;
 }
@@ -548,16 +571,17 @@ static uint16_t judge(struct asked *asked, unsigned digits, const struct seen *s
     }
 }
 
-/* ---- queries ---- */
-
-static void put_point_count(struct text *text, const struct areas *areas)
+/* 11, by the message and whatever its content; 0 where it doesn't hold. 208H looks at no slot. */
+static uint16_t test_count(const struct seen *seen, unsigned message)
 {
-    const uint8_t *slot = areas->points, *end = areas->points + SLOT * areas->seen.held;
-    unsigned count = 0;
-    for (; slot < end; slot += SLOT)
-        count += slot[0] != 0;
-    put_three(text, count);
+    if (message == POINT_COUNT)
+        return seen->effective <= seen->held ? 0 : 11;
+    if (message == POINT_WRITE || message == POINT_CLEAR)
+        return count_is_true(seen) ? 0 : 11;
+    return 0;
 }
+
+/* ---- queries ---- */
 
 static void put_point(struct text *text, size_t number, const uint8_t *slot)
 {
@@ -661,6 +685,7 @@ static void write_points(struct areas *areas, const struct asked *asked)
     const uint8_t *point = asked->content + 6;
     size_t left;
     keep_old(areas, POINTS_TAG, (unsigned)asked->start, slot, SLOT * asked->count);
+    areas->seen.effective += asked->count - effective_among(slot, asked->count);
     for (left = asked->count; left > 0; left--, slot += SLOT)
         point = store_point(slot, point);
 }
@@ -669,6 +694,7 @@ static void clear_points(struct areas *areas, const struct asked *asked)
 {
     uint8_t *slot = place_of(areas, POINTS_TAG, asked->start);
     keep_old(areas, POINTS_TAG, (unsigned)asked->start, slot, SLOT * asked->count);
+    areas->seen.effective -= effective_among(slot, asked->count);
     memset(slot, 0, SLOT * asked->count);
 }
 
@@ -702,7 +728,7 @@ static void carry_out(struct text *text, struct areas *areas, const struct asked
         put_same(text, asked->content, 10);
         break;
     case POINT_COUNT:
-        put_point_count(text, areas);
+        put_three(text, (unsigned)areas->seen.effective);
         break;
     case POINT_LIST:
         put_point_list(text, areas, asked);
@@ -863,7 +889,7 @@ static struct asked read_frame(const uint8_t *frame, size_t frame_length, unsign
 /*
  * The first half of a frame's answer, which checking and acting go through: all tests but 1, in their order,
  * the first of them on the areas' lengths and the journal; 0 where none holds. Nothing that is lent is
- * written. *sum is what the sum test says, and *asked is set where no refusal without a reply holds.
+ * written. *sum is what the sum test says, and *asked is set where no refusal up to 8 holds.
  */
 static uint16_t look(const uint8_t *frame, size_t frame_length, size_t points_length, size_t columns_length,
                      size_t integers_length, size_t flags_length, struct seen *seen,
@@ -881,7 +907,8 @@ static uint16_t look(const uint8_t *frame, size_t frame_length, size_t points_le
     if (number != 0)
         return number;
     *asked = read_frame(frame, frame_length, rule);
-    return judge(asked, digits, seen, fitted);
+    number = test_count(seen, asked->message);
+    return number != 0 ? number : judge(asked, digits, seen, fitted);
 }
 
 uint16_t plain_check(const uint8_t *frame, size_t frame_length,
@@ -889,17 +916,19 @@ uint16_t plain_check(const uint8_t *frame, size_t frame_length,
                      const uint8_t *columns, size_t columns_length,
                      const uint8_t *integers, size_t integers_length,
                      const uint8_t *flags, size_t flags_length,
-                     const uint8_t *journal, size_t journal_length, size_t used,
+                     const uint8_t *journal, size_t journal_length,
+                     size_t used, size_t effective,
                      const uint8_t *axes, size_t axes_length,
                      uint8_t fitted, uint8_t station, uint8_t release, uint8_t unchecked,
                      uint16_t first_integer, uint16_t first_flag,
                      uint8_t *sum, uint16_t *message, size_t *start, size_t *count)
 {
-    struct seen seen = {journal, journal_length, used, 0, first_integer, 0, first_flag, 0, 0};
+    struct seen seen = {points, journal, journal_length, used, effective, 0,
+                        first_integer, 0, first_flag, 0, 0};
     struct asked asked = {UNKNOWN, NULL, 0, 0, 0};
     uint16_t number = look(frame, frame_length, points_length, columns_length, integers_length, flags_length,
                            &seen, axes, axes_length, fitted, station, release, unchecked, sum, &asked);
-    (void)points, (void)columns, (void)integers, (void)flags; /* no test reads what is kept in them */
+    (void)columns, (void)integers, (void)flags; /* no test reads what is kept in them */
     *message = number == 0 ? (uint16_t)asked.message : 0;
     *start = number == 0 ? asked.start : 0;
     *count = number == 0 ? asked.count : 0;
@@ -911,7 +940,8 @@ uint16_t plain_act(const uint8_t *frame, size_t frame_length,
                    uint8_t *columns, size_t columns_length,
                    uint8_t *integers, size_t integers_length,
                    uint8_t *flags, size_t flags_length,
-                   uint8_t *journal, size_t journal_length, size_t *used,
+                   uint8_t *journal, size_t journal_length,
+                   size_t *used, size_t *effective,
                    const uint8_t *axes, size_t axes_length,
                    uint8_t fitted, uint8_t station, uint8_t release, uint8_t unchecked,
                    uint16_t first_integer, uint16_t first_flag,
@@ -919,7 +949,8 @@ uint16_t plain_act(const uint8_t *frame, size_t frame_length,
                    uint8_t *sum)
 {
     struct areas areas = {points, columns, integers, flags, journal,
-                          {journal, journal_length, *used, 0, first_integer, 0, first_flag, 0, 0}};
+                          {points, journal, journal_length, *used, *effective, 0,
+                           first_integer, 0, first_flag, 0, 0}};
     struct text text = {reply, 0};
     struct asked asked;
     uint16_t number;
@@ -938,6 +969,7 @@ uint16_t plain_act(const uint8_t *frame, size_t frame_length,
     carry_out(&text, &areas, &asked, axes, fitted);
     *reply_length = close_reply(&text, reply);
     *used = areas.seen.used;
+    *effective = areas.seen.effective;
     return 0;
 }
 
@@ -947,7 +979,8 @@ uint16_t plain_answer(const uint8_t *frame, size_t frame_length,
                       uint8_t *columns, size_t columns_length,
                       uint8_t *integers, size_t integers_length,
                       uint8_t *flags, size_t flags_length,
-                      uint8_t *journal, size_t journal_length, size_t *used,
+                      uint8_t *journal, size_t journal_length,
+                      size_t *used, size_t *effective,
                       const uint8_t *axes, size_t axes_length,
                       uint8_t fitted, uint8_t station, uint8_t release, uint8_t unchecked,
                       uint16_t first_integer, uint16_t first_flag,
@@ -955,26 +988,31 @@ uint16_t plain_answer(const uint8_t *frame, size_t frame_length,
                       uint8_t *sum)
 {
     return plain_act(frame, frame_length, points, points_length, columns, columns_length,
-                     integers, integers_length, flags, flags_length, journal, journal_length, used,
-                     axes, axes_length, fitted, station, release, unchecked, first_integer, first_flag,
-                     reply, reply_area_length, reply_length, sum);
+                     integers, integers_length, flags, flags_length, journal, journal_length,
+                     used, effective, axes, axes_length, fitted, station, release, unchecked,
+                     first_integer, first_flag, reply, reply_area_length, reply_length, sum);
 }
 
 uint16_t plain_step_back(uint8_t *points, size_t points_length,
                          uint8_t *columns, size_t columns_length,
                          uint8_t *integers, size_t integers_length,
                          uint8_t *flags, size_t flags_length,
-                         uint8_t *journal, size_t journal_length, size_t *used,
+                         uint8_t *journal, size_t journal_length,
+                         size_t *used, size_t *effective,
                          uint16_t first_integer, uint16_t first_flag)
 {
     struct areas areas = {points, columns, integers, flags, journal,
-                          {journal, journal_length, *used, 0, first_integer, 0, first_flag, 0, 0}};
+                          {points, journal, journal_length, *used, *effective, 0,
+                           first_integer, 0, first_flag, 0, 0}};
     uint16_t number = test_areas(&areas.seen, points_length, columns_length, integers_length, flags_length);
     if (number != 0)
         return number;
+    if (!count_is_true(&areas.seen))
+        return 11;
     if (areas.seen.used == 0)
         return 9;
     take_back(&areas);
     *used = areas.seen.used;
+    *effective = areas.seen.effective;
     return 0;
 }

@@ -18,7 +18,7 @@
 enum { HANDED, POINTS, COLUMNS, INTEGERS, FLAGS, JOURNAL, AXES, REPLY, PARTS };
 
 /* The numbers that a call writes: what the sum test said, the message, and those of a size_t. */
-enum { SUM, MESSAGE, SIZE_1, SIZE_2, SIZE_3, USED, NUMBERS };
+enum { SUM, MESSAGE, SIZE_1, SIZE_2, SIZE_3, USED, EFFECTIVE, NUMBERS };
 
 /* How many out numbers are sent back for each call. */
 enum { OUT = 4 };
@@ -207,13 +207,14 @@ static uint16_t *message(void)
     return (uint16_t *)(void *)lent(&written[MESSAGE]);
 }
 
-/* Before a call: all out numbers unset, and the used length as handed over. */
-static void unset_numbers(size_t used)
+/* Before a call: all out numbers unset, and the used length and the count as handed over. */
+static void unset_numbers(size_t used, size_t effective)
 {
     size_t named;
     for (named = 0; named < NUMBERS; named++)
         memset(lent(&written[named]), UNSET, written[named].length);
     *size(USED) = used;
+    *size(EFFECTIVE) = effective;
 }
 
 /* After a call: nothing was written beside a number. */
@@ -235,7 +236,7 @@ static void give_out(const uint64_t *out, size_t count)
 
 static void call(int kind)
 {
-    size_t used = (size_t)number(8), i;
+    size_t used = (size_t)number(8), effective = (size_t)number(8), i;
     uint8_t fitted = (uint8_t)number(1), station = (uint8_t)number(1), release = (uint8_t)number(1);
     uint8_t unchecked = (uint8_t)number(1);
     uint16_t first_integer = (uint16_t)number(2), first_flag = (uint16_t)number(2);
@@ -247,19 +248,19 @@ static void call(int kind)
 
     if (p->whole == NULL)
         fail("malformed operation", 2);
-    unset_numbers(used);
+    unset_numbers(used, effective);
     if (kind == 'F' || kind == 'A') {
         returned = (kind == 'F' ? cabinet_answer : cabinet_act)(
             lent(h), h->length, lent(p), p->length, lent(c), c->length, lent(n), n->length,
-            lent(f), f->length, lent(j), j->length, size(USED), lent(x), x->length,
+            lent(f), f->length, lent(j), j->length, size(USED), size(EFFECTIVE), lent(x), x->length,
             fitted, station, release, unchecked, first_integer, first_flag,
             lent(r), r->length, size(SIZE_1), lent(&written[SUM]));
         out[outs++] = *size(SIZE_1);
         out[outs++] = *lent(&written[SUM]);
     } else if (kind == 'C') {
         returned = cabinet_check(lent(h), h->length, lent(p), p->length, lent(c), c->length,
-                                 lent(n), n->length, lent(f), f->length, lent(j), j->length, used,
-                                 lent(x), x->length, fitted, station, release, unchecked,
+                                 lent(n), n->length, lent(f), f->length, lent(j), j->length,
+                                 used, effective, lent(x), x->length, fitted, station, release, unchecked,
                                  first_integer, first_flag, lent(&written[SUM]), message(),
                                  size(SIZE_1), size(SIZE_2));
         out[outs++] = *lent(&written[SUM]);
@@ -268,8 +269,8 @@ static void call(int kind)
         out[outs++] = *size(SIZE_2);
     } else if (kind == 'S') {
         returned = cabinet_step_back(lent(p), p->length, lent(c), c->length, lent(n), n->length,
-                                     lent(f), f->length, lent(j), j->length, size(USED),
-                                     first_integer, first_flag);
+                                     lent(f), f->length, lent(j), j->length,
+                                     size(USED), size(EFFECTIVE), first_integer, first_flag);
     } else {
         returned = cabinet_receive(lent(h), h->length, size(SIZE_1), size(SIZE_2), size(SIZE_3));
         for (i = SIZE_1; i <= SIZE_3; i++)
@@ -280,6 +281,7 @@ static void call(int kind)
     give_number(returned, 2);
     give_out(out, outs);
     give_number(*size(USED), 8);
+    give_number(*size(EFFECTIVE), 8);
     for (i = 0; i < PARTS; i++)
         give_area(&area[i]);
 }

@@ -24,7 +24,7 @@ static uint8_t *const area[PARTS] = {points, columns, integers, flags, journal, 
 static const size_t most[PARTS] = {sizeof points, sizeof columns, sizeof integers, sizeof flags,
                                    sizeof journal, sizeof reply, sizeof axes};
 static size_t lent[PARTS];
-static size_t used;
+static size_t used, effective;
 static uint8_t fitted, station, release, unchecked;
 static uint16_t first_integer, first_flag;
 
@@ -102,6 +102,7 @@ static void board(void)
     lend(REPLY, CABINET_REPLY_BYTES);
     lend(AXES, CABINET_AXES_BYTES);
     used = 0;
+    effective = 0;
 }
 
 static void spoil(void)
@@ -133,10 +134,11 @@ static void answer(int kind)
     uint8_t sum = UNSET;
     unsigned given = (kind == 'F' ? cabinet_answer : cabinet_act)(
         frame, length, points, lent[POINTS], columns, lent[COLUMNS], integers, lent[INTEGERS],
-        flags, lent[FLAGS], journal, lent[JOURNAL], &used, axes, lent[AXES],
+        flags, lent[FLAGS], journal, lent[JOURNAL], &used, &effective, axes, lent[AXES],
         fitted, station, release, unchecked, first_integer, first_flag,
         reply, lent[REPLY], &reply_length, &sum);
-    printf("%c %u %lu %lu %u", kind, given, (unsigned long)reply_length, (unsigned long)used, sum);
+    printf("%c %u %lu %lu %lu %u", kind, given, (unsigned long)reply_length, (unsigned long)used,
+           (unsigned long)effective, sum);
     print_digests(AXES); /* all before the axes, which no call writes */
 }
 
@@ -148,7 +150,7 @@ static void check(void)
     uint16_t message = UNSET;
     unsigned given = cabinet_check(frame, length, points, lent[POINTS], columns, lent[COLUMNS],
                                    integers, lent[INTEGERS], flags, lent[FLAGS],
-                                   journal, lent[JOURNAL], used, axes, lent[AXES],
+                                   journal, lent[JOURNAL], used, effective, axes, lent[AXES],
                                    fitted, station, release, unchecked, first_integer, first_flag,
                                    &sum, &message, &start, &count);
     printf("C %u %u %lu %lu %u", given, (unsigned)message, (unsigned long)start, (unsigned long)count, sum);
@@ -159,8 +161,8 @@ static void step_back(void)
 {
     unsigned given = cabinet_step_back(points, lent[POINTS], columns, lent[COLUMNS],
                                        integers, lent[INTEGERS], flags, lent[FLAGS],
-                                       journal, lent[JOURNAL], &used, first_integer, first_flag);
-    printf("S %u %lu", given, (unsigned long)used);
+                                       journal, lent[JOURNAL], &used, &effective, first_integer, first_flag);
+    printf("S %u %lu %lu", given, (unsigned long)used, (unsigned long)effective);
     print_digests(REPLY); /* all before the reply */
 }
 
@@ -182,6 +184,7 @@ static int play(void)
     case 'B': board(); return 1;
     case 'X': spoil(); return 1;
     case 'U': used = (size_t)number(8); return 1;
+    case 'N': effective = (size_t)number(8); return 1;
     case 'L': named = part(); lend(named, (size_t)number(4)); return 1;
     case 'P': take_four_settings(); take_first_numbers(); return 1;
     case 'F':

@@ -6,9 +6,10 @@
  * (cabinet_check_frame, cabinet_act_frame), and the service panel's step back (cabinet_take_back). The last
  * four are made on a struct cabinet, which has all that they need by name; below them stand the archive's
  * own calls on numbers and byte areas, cabinet_answer, cabinet_check, cabinet_act and cabinet_step_back.
- * What they promise is document 01's and, of integer variables and flags (request a), of test calls with
- * line ends in them (request c), of '@@' forbidden and told (request f), of looking before storing (request
- * g) and of small letters (request l), document 02's; section names below are document 01's.
+ * What they promise is document 01's and, of integer variables and flags (request a), of a count that is
+ * kept (request b), of test calls with line ends in them (request c), of '@@' forbidden and told (request f),
+ * of looking before storing (request g) and of small letters (request l), document 02's; section names below
+ * are document 01's.
  *
  * Link with libboard.a. C99 or later, or C++11 or later.
  *
@@ -33,7 +34,11 @@
  *              15), error code (2, 0 to 4,095), encoder (1), position (4, signed), high byte first.
  *   reply      at least 1,024 bytes, where the reply is written.
  *
- * Fresh is all zero bytes in points, columns, integers, flags and journal, and used length 0.
+ * Beside the used length a second number is kept, the count of effective points: how many slots have a
+ * pattern that isn't 00. The calls that write points keep it true, and 208H replies it without looking at a
+ * slot. The calls that test it against the slots are 244H, 246H and the step back (refusal 11).
+ *
+ * Fresh is all zero bytes in points, columns, integers, flags and journal, used length 0 and count 0.
  *
  * Two settings say where the numbers of integers and flags begin: first_integer, at most 3,996, since a
  * frame has three digits for such a number, and first_flag, at most 65,236, since it has four.
@@ -58,14 +63,15 @@
  *   - Every pointer points to as many bytes as its length says (or to one number) and is never null,
  *     not even where the length is 0.
  *   - An area or number that a call may write (points, columns, integers, flags, journal, reply, *used,
- *     *reply_length, *sum, *message, *start, *count, *length, *drop) overlaps no other one handed to the same
- *     call. The frame may be a part of the received bytes; it is no part of a struct cabinet. What a call
- *     only reads is const; cabinet_check reads all areas and writes none.
+ *     *effective, *reply_length, *sum, *message, *start, *count, *length, *drop) overlaps no other one handed
+ *     to the same call. The frame may be a part of the received bytes; it is no part of a struct cabinet.
+ *     What a call only reads is const; cabinet_check reads all areas and writes none.
  *   - Lengths and bytes may be any: a wrong length, a spoiled byte or a damaged frame is refused as
  *     the table says, and nothing undefined is done.
- *   - For the step back to give back what was there: start fresh, use the same areas throughout, leave
- *     first_integer and first_flag as they were at fresh, hand each call the used length the last one
- *     handed back (a check hands none back), and let nothing else write them.
+ *   - For the step back to give back what was there, and for 208H to reply what is there: start fresh, use
+ *     the same areas throughout, leave first_integer and first_flag as they were at fresh, hand each call
+ *     the used length and the count the last one handed back (a check hands none back), and let nothing
+ *     else write them. Then refusal 11 never comes.
  *   - Calls on different areas may run at the same time. Of calls on the same areas only checks may, any
  *     number of them, each with out numbers of its own.
  *
@@ -73,8 +79,8 @@
  * REFUSAL NUMBERS, IN THE ORDER TESTED
  *
  * An accepted call has number 0. Each number is given exactly when its condition holds and none
- * earlier does. The step back tests 2, 3, 10, 4, then 9; answering a frame and acting on it test all but 9;
- * checking it tests all but 1 and 9. Their names are those of enum cabinet_refusal.
+ * earlier does. The step back tests 2, 3, 10, 4, 11, then 9; answering a frame and acting on it test all
+ * but 9; checking it tests all but 1 and 9. Their names are those of enum cabinet_refusal.
  *
  *   No.  When                                                        Reply  Left
  *   ---  ----------------------------------------------------------  -----  ------------------------
@@ -93,6 +99,9 @@
  *    12  SC is '@@', and that is forbidden                           none   same
  *     7  SC neither true, in digits of this release, nor '@@'        none   same
  *     8  station differs or isn't digits of this release             none   same
+ *    11  a 244H, a 246H or a step back with a kept count that        none   same
+ *        isn't the number of effective slots; a 208H with one
+ *        above N; whatever the frame's content
  *     9  step back with used length 0                                none   same
  *   101  message unknown                                             error  10 reply bytes written,
  *                                                                           nothing else
@@ -116,9 +125,9 @@
  *   if (board.sum == CABINET_SUM_SWITCHED_OFF)
  *       service_log(number, line + start, length);
  *
- * The number says what became of the frame: 0 where it was done, 12 where '@@' is forbidden, 8 or 101 to 108
- * where something else was wrong. A frame that an earlier test refuses (1 to 6, 10, 13) is not tested, and
- * so not logged, whatever its SC.
+ * The number says what became of the frame: 0 where it was done, 12 where '@@' is forbidden, 8, 11 or 101 to
+ * 108 where something else was wrong. A frame that an earlier test refuses (1 to 6, 10, 13) is not tested,
+ * and so not logged, whatever its SC.
  *
  *
  * LOOK BEFORE STORING
@@ -234,8 +243,13 @@ extern "C" {
  * parameters more; a host with a struct cabinet stays as it is.
  * Version 6: cabinet_check and cabinet_act, and over a struct cabinet cabinet_check_frame and
  * cabinet_act_frame. All else is as it was.
+ * Version 7: the count of effective points, behind the used length in cabinet_answer, cabinet_check,
+ * cabinet_act and cabinet_step_back, and in struct cabinet; refusal 11. A host with a struct cabinet that
+ * starts fresh stays as it is; one that goes on with points written under an earlier version first sets the
+ * count to the number of slots whose first byte isn't 00, else its 244H, 246H and steps back are refused 11
+ * and 208H replies what it was handed.
  */
-#define CABINET_VERSION 6
+#define CABINET_VERSION 7
 
 /* Lengths in bytes ("The areas", "Frame"), and how many there are: points at most, integers, flags. */
 #define CABINET_SLOT_BYTES 40
@@ -292,6 +306,7 @@ enum cabinet_refusal {
     CABINET_REFUSED_SWITCHED_OFF = 12,
     CABINET_REFUSED_SC = 7,
     CABINET_REFUSED_STATION = 8,
+    CABINET_REFUSED_EFFECTIVE_COUNT = 11,
     CABINET_REFUSED_NO_WRITE_LEFT = 9,
     CABINET_REFUSED_MESSAGE = 101,
     CABINET_REFUSED_DIGIT = 102,
@@ -344,6 +359,9 @@ uint8_t cabinet_receive(const uint8_t *received, size_t received_length,
  *                                 entry, after dropping oldest entries, and no more than needed, until
  *                                 it fits; bytes beyond the used length are then 00
  *   used            in and out: the journal's used length; a refused call and a query leave it
+ *   effective       in and out: the kept count of effective points. An accepted 244H or 246H hands back how
+ *                   many slots have a pattern that isn't 00 after it; any other call, and any refused one,
+ *                   leaves it. 208H replies it
  *   axes, axes_length             the eight axis records; not written
  *   fitted          the fitted axes, bit 0 for axis 1; not 0
  *   station         the board's station, two digits in a frame (99H for "99")
@@ -357,8 +375,8 @@ uint8_t cabinet_receive(const uint8_t *received, size_t received_length,
  *   sum             out: what the sum test said, enum cabinet_sum: also where 12, 7 or a later test refuses
  *                   the frame; CABINET_SUM_UNTESTED where an earlier one does (1 to 6, 10, 13)
  *
- * Returns CABINET_ACCEPTED, else the refusal number (1 to 8, 10, 12 and 13: no reply; 101 to 108: the ten
- * bytes of an error reply).
+ * Returns CABINET_ACCEPTED, else the refusal number (1 to 8 and 10 to 13: no reply; 101 to 108: the ten bytes
+ * of an error reply).
  *
  * Replies to accepted frames, each '#', station, message ID, content, SC, CR, LF, and the content's digits:
  *
@@ -384,7 +402,8 @@ uint16_t cabinet_answer(const uint8_t *frame, size_t frame_length,
                         uint8_t *columns, size_t columns_length,
                         uint8_t *integers, size_t integers_length,
                         uint8_t *flags, size_t flags_length,
-                        uint8_t *journal, size_t journal_length, size_t *used,
+                        uint8_t *journal, size_t journal_length,
+                        size_t *used, size_t *effective,
                         const uint8_t *axes, size_t axes_length,
                         uint8_t fitted, uint8_t station, uint8_t release, uint8_t unchecked,
                         uint16_t first_integer, uint16_t first_flag,
@@ -395,7 +414,8 @@ uint16_t cabinet_answer(const uint8_t *frame, size_t frame_length,
  * Checks one frame: says what answering it would do, or its refusal, and changes nothing. No area is
  * written, and there is no reply. Easier to call: cabinet_check_frame below.
  *
- *   frame to first_flag   as in cabinet_answer, all of it only read: the used length by value, no reply area
+ *   frame to first_flag   as in cabinet_answer, all of it only read: the used length and the count of
+ *                   effective points by value, no reply area
  *   sum             out: what the sum test said, as cabinet_answer tells it where its reply area is long
  *                   enough
  *   message         out: the ID of the message that would be done, as a number, 0x244 for 244H; 0 where the
@@ -405,7 +425,7 @@ uint16_t cabinet_answer(const uint8_t *frame, size_t frame_length,
  *                   refused; where there is a run the count isn't 0, and its start may be
  *
  * Returns CABINET_ACCEPTED where the frame would be done, else the number that cabinet_act and
- * cabinet_answer refuse it with where the reply area is long enough: 2 to 8, 10, 12, 13 or 101 to 108, never
+ * cabinet_answer refuse it with where the reply area is long enough: 2 to 8, 10 to 13 or 101 to 108, never
  * 1.
  */
 uint16_t cabinet_check(const uint8_t *frame, size_t frame_length,
@@ -413,7 +433,8 @@ uint16_t cabinet_check(const uint8_t *frame, size_t frame_length,
                        const uint8_t *columns, size_t columns_length,
                        const uint8_t *integers, size_t integers_length,
                        const uint8_t *flags, size_t flags_length,
-                       const uint8_t *journal, size_t journal_length, size_t used,
+                       const uint8_t *journal, size_t journal_length,
+                       size_t used, size_t effective,
                        const uint8_t *axes, size_t axes_length,
                        uint8_t fitted, uint8_t station, uint8_t release, uint8_t unchecked,
                        uint16_t first_integer, uint16_t first_flag,
@@ -429,7 +450,8 @@ uint16_t cabinet_act(const uint8_t *frame, size_t frame_length,
                      uint8_t *columns, size_t columns_length,
                      uint8_t *integers, size_t integers_length,
                      uint8_t *flags, size_t flags_length,
-                     uint8_t *journal, size_t journal_length, size_t *used,
+                     uint8_t *journal, size_t journal_length,
+                     size_t *used, size_t *effective,
                      const uint8_t *axes, size_t axes_length,
                      uint8_t fitted, uint8_t station, uint8_t release, uint8_t unchecked,
                      uint16_t first_integer, uint16_t first_flag,
@@ -447,17 +469,20 @@ uint16_t cabinet_act(const uint8_t *frame, size_t frame_length,
  *   journal, journal_length       the journal; loses its last entry, and bytes beyond the used length
  *                                 are then 00
  *   used            in and out: the journal's used length; a refused call leaves it
+ *   effective       in and out: the kept count of effective points; an accepted step back, of any kind,
+ *                   hands back how many slots have a pattern that isn't 00 after it, a refused one leaves it
  *   first_integer   the number of the first integer variable
  *   first_flag      the number of the first flag
  *
- * Returns CABINET_ACCEPTED where a write was taken back, else the refusal number: 2, 3, 10, 4, or 9 where
- * no write is left. There is no reply.
+ * Returns CABINET_ACCEPTED where a write was taken back, else the refusal number: 2, 3, 10, 4, 11, or 9
+ * where no write is left. There is no reply.
  */
 uint16_t cabinet_step_back(uint8_t *points, size_t points_length,
                            uint8_t *columns, size_t columns_length,
                            uint8_t *integers, size_t integers_length,
                            uint8_t *flags, size_t flags_length,
-                           uint8_t *journal, size_t journal_length, size_t *used,
+                           uint8_t *journal, size_t journal_length,
+                           size_t *used, size_t *effective,
                            uint16_t first_integer, uint16_t first_flag);
 
 /*
@@ -495,7 +520,8 @@ struct cabinet {
     uint8_t columns[CABINET_COLUMNS_BYTES];
     uint8_t integers[CABINET_INTEGERS_BYTES];
     uint8_t flags[CABINET_FLAGS_BYTES];
-    size_t used; /* the journal's used length */
+    size_t used;      /* the journal's used length */
+    size_t effective; /* the count of effective points */
 
     /* what the last answer, act or step back gave; a check leaves it */
     uint8_t reply[CABINET_REPLY_BYTES];
@@ -514,7 +540,7 @@ static inline uint16_t cabinet_answer_frame(struct cabinet *board,
     return cabinet_answer(frame, frame_length, board->points, board->points_length,
                           board->columns, sizeof board->columns,
                           board->integers, sizeof board->integers, board->flags, sizeof board->flags,
-                          board->journal, board->journal_length, &board->used,
+                          board->journal, board->journal_length, &board->used, &board->effective,
                           board->axes, sizeof board->axes, board->fitted, board->station,
                           board->release == 0 ? (uint8_t)CABINET_CAPITALS_ONLY : board->release,
                           board->forbid_unchecked == 0, board->first_integer, board->first_flag,
@@ -539,7 +565,7 @@ static inline uint16_t cabinet_check_frame(const struct cabinet *board, const ui
     return cabinet_check(frame, frame_length, board->points, board->points_length,
                          board->columns, sizeof board->columns,
                          board->integers, sizeof board->integers, board->flags, sizeof board->flags,
-                         board->journal, board->journal_length, board->used,
+                         board->journal, board->journal_length, board->used, board->effective,
                          board->axes, sizeof board->axes, board->fitted, board->station,
                          board->release == 0 ? (uint8_t)CABINET_CAPITALS_ONLY : board->release,
                          board->forbid_unchecked == 0, board->first_integer, board->first_flag,
@@ -556,7 +582,7 @@ static inline uint16_t cabinet_act_frame(struct cabinet *board,
     return cabinet_act(frame, frame_length, board->points, board->points_length,
                        board->columns, sizeof board->columns,
                        board->integers, sizeof board->integers, board->flags, sizeof board->flags,
-                       board->journal, board->journal_length, &board->used,
+                       board->journal, board->journal_length, &board->used, &board->effective,
                        board->axes, sizeof board->axes, board->fitted, board->station,
                        board->release == 0 ? (uint8_t)CABINET_CAPITALS_ONLY : board->release,
                        board->forbid_unchecked == 0, board->first_integer, board->first_flag,
@@ -575,7 +601,7 @@ static inline uint16_t cabinet_take_back(struct cabinet *board)
     return cabinet_step_back(board->points, board->points_length,
                              board->columns, sizeof board->columns,
                              board->integers, sizeof board->integers, board->flags, sizeof board->flags,
-                             board->journal, board->journal_length, &board->used,
+                             board->journal, board->journal_length, &board->used, &board->effective,
                              board->first_integer, board->first_flag);
 }
 

@@ -1,5 +1,5 @@
 //! The lent areas (document 01, "The areas"; document 02, a): slots, columns, integers, flags and
-//! axis records; and the settings beside them.
+//! axis records; the numbers kept with them (document 02, b), and the settings beside them.
 
 use std::ops::Range;
 
@@ -17,7 +17,7 @@ pub const LAST_FLAG_NUMBER: usize = 0xFFFF;
 pub const RECORD: usize = 9;
 pub const AXES: usize = 8;
 
-/// The areas the board keeps, as lent: of any length, and `used` any number.
+/// The areas the board keeps, as lent: of any length, and `used` and `effective` any number.
 #[derive(Clone, Debug, PartialEq, Eq)]
 pub struct Board {
     pub points: Vec<u8>,
@@ -26,10 +26,12 @@ pub struct Board {
     pub flags: Vec<u8>,
     pub journal: Vec<u8>,
     pub used: usize,
+    /// The kept count of effective points (document 02, b).
+    pub effective: usize,
 }
 
 impl Board {
-    /// Fresh is all zero bytes and used length 0.
+    /// Fresh is all zero bytes, used length 0 and count 0.
     pub fn fresh(points: usize, journal_length: usize) -> Board {
         Board {
             points: vec![0; SLOT * points],
@@ -38,7 +40,13 @@ impl Board {
             flags: vec![0; FLAGS],
             journal: vec![0; journal_length],
             used: 0,
+            effective: 0,
         }
+    }
+
+    /// The slots with a non-zero pattern, counted: what the kept count must be.
+    pub fn effective_slots(&self) -> usize {
+        self.points.chunks_exact(SLOT).filter(|slot| slot[0] != 0).count()
     }
 
     /// N, the area's length over 40; None is refusal 2.
@@ -289,6 +297,18 @@ mod tests {
         assert_eq!(held(41), None);
         assert_eq!(held(60_000), Some(1_500));
         assert_eq!(held(60_040), None);
+    }
+
+    #[test]
+    fn slots_are_counted_by_their_pattern_alone() {
+        let mut board = Board::fresh(4, 0);
+        assert_eq!((board.effective_slots(), board.effective), (0, 0));
+        for (at, byte) in [(0, 0x01), (41, 0xFF), (80, 0x80), (120, 0x00), (159, 0x01)] {
+            board.points[at] = byte;
+        }
+        assert_eq!((board.effective_slots(), board.effective), (2, 0));
+        board.points.fill(0xFF);
+        assert_eq!(board.effective_slots(), 4);
     }
 
     #[test]

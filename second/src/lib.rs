@@ -1,6 +1,6 @@
 //! The independent second program: the board of document 01 as a plain model on byte vectors.
 //!
-//! Written from document 01 (`01-scope.md`), requests a, c, f, g, l and n of document 02
+//! Written from document 01 (`01-scope.md`), requests a, b, c, f, g, l and n of document 02
 //! (`02-change-requests.md`) and document 000 (IAI's X-SEL Format B specification), with the form of the C
 //! calls from `include/cabinet.h`, and from nothing else, to judge the product. The public calls are
 //! `frames::find`, `link::answer`, `link::check`, `link::act` and `link::step_back`; they take areas of any

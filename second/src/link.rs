@@ -106,14 +106,16 @@ pub fn answer(
     act(frame, board, axes, settings, reply)
 }
 
-/// Takes the latest accepted write back; answers 0 or the refusal (2, 3, 10, 4, then 9).
+/// Takes the latest accepted write back; answers 0 or the refusal (2, 3, 10, 4, 11, then 9).
 pub fn step_back(board: &mut Board, firsts: Firsts) -> u16 {
     match area_tests(board, firsts) {
         Err(number) => number,
+        Ok(_) if !count_is_true(board) => 11,
         Ok(sound) => match sound.entries.last() {
             None => 9,
             Some(last) => {
                 journal::take_back(board, last);
+                board.effective = board.effective_slots();
                 0
             }
         },
@@ -133,6 +135,7 @@ fn looked(
     };
     let said = frames::sum_test(frame, rule);
     let asked = sum_and_station(frame, said, settings, rule)
+        .and_then(|()| kept_count(frame, board, sound.kinds.points.held))
         .and_then(|()| messages::ask(frame, &sound.kinds, settings.fitted, rule));
     let order = |(id, asked)| Order { id, asked, entries: sound.entries, records };
     (sum_number(said), asked.map(order))
@@ -165,6 +168,23 @@ fn sum_and_station(frame: &[u8], said: Sum, settings: Settings, rule: Rule) -> R
         _ if !frames::has_station(frame, settings.station, rule) => Err(8),
         _ => Ok(()),
     }
+}
+
+/// 11, by the frame's ID and whatever its content (document 02, b): a write and a clear want a count that is
+/// true, a 208H one that points can have, and looks at no slot; no other message looks at the count.
+fn kept_count(frame: &[u8], board: &Board, points: usize) -> Result<(), u16> {
+    let (id, _) = frames::id_and_content(frame);
+    let fits = match id {
+        b"244" | b"246" => count_is_true(board),
+        b"208" => board.effective <= points,
+        _ => true,
+    };
+    fits.then_some(()).ok_or(11)
+}
+
+/// Whether the kept count is the slots'.
+fn count_is_true(board: &Board) -> bool {
+    board.effective == board.effective_slots()
 }
 
 /// Tests 2, 3, 10 and 4, which a step back makes too.
@@ -207,19 +227,19 @@ fn carry_out(order: &Order, board: &mut Board, fitted: u8) -> Vec<u8> {
     let Order { asked, entries, records, .. } = order;
     match asked {
         Asked::TestCall { text } => text.clone(),
-        Asked::PointCount => replies::point_count(board),
+        Asked::PointCount => replies::point_count(board.effective),
         Asked::PointList { run } => replies::point_list(board, run),
         Asked::FlagQuery { program, run } => replies::flags(board, *program, run),
         Asked::Query { program, run } => replies::run(board, *program, run),
         Asked::AxisStatus { pattern } => replies::axis_status(records, pattern & fitted),
         Asked::PointWrite { run, points } => {
             let slots: Vec<u8> = points.iter().flat_map(|point| point.to_slot()).collect();
-            write(board, entries, run, &slots);
+            write_points(board, entries, run, &slots);
             replies::points_written(run)
         }
         // 4-3-25, 4-3-27 and 4-3-30: these replies have no content.
         Asked::PointClear { run } => {
-            write(board, entries, run, &vec![0; run.place().len()]);
+            write_points(board, entries, run, &vec![0; run.place().len()]);
             Vec::new()
         }
         Asked::FlagChange { run, change, .. } => {
@@ -234,6 +254,12 @@ fn carry_out(order: &Order, board: &mut Board, fitted: u8) -> Vec<u8> {
             }
         }
     }
+}
+
+/// One accepted write of slots, which keeps the count true; one of any other kind leaves it as it was given.
+fn write_points(board: &mut Board, entries: &[Entry], run: &Run, slots: &[u8]) {
+    write(board, entries, run, slots);
+    board.effective = board.effective_slots();
 }
 
 /// One accepted write: the old bytes go to the journal before the new ones take their place.

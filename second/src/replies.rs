@@ -4,9 +4,8 @@ use crate::areas::{axes_of, Axis, Board, Point, Run, SLOT};
 use crate::digits::push;
 use crate::frames::{LONGEST_REPLY, SHORTEST_FRAME};
 
-/// 4-3-4: the number of effective points, 3 digits.
-pub(crate) fn point_count(board: &Board) -> Vec<u8> {
-    let effective = board.points.chunks_exact(SLOT).filter(|slot| slot[0] != 0).count();
+/// 4-3-4: the number of effective points, 3 digits: the kept count, and no slot is looked at.
+pub(crate) fn point_count(effective: usize) -> Vec<u8> {
     let mut content = Vec::new();
     push(&mut content, effective as u32, 3);
     content
@@ -129,13 +128,10 @@ mod tests {
     }
 
     #[test]
-    fn counts_slots_with_a_pattern() {
-        assert_eq!(point_count(&Board::fresh(1_500, 0)), b"000");
-        assert_eq!(point_count(&board_of(&[1, 0, 0x80, 0])), b"002");
-        assert_eq!(point_count(&board_of(&[1; 1_500])), b"5DC");
-        let mut spoiled = Board::fresh(2, 0);
-        spoiled.points[1..40].fill(7);
-        assert_eq!(point_count(&spoiled), b"000");
+    fn a_count_has_three_digits() {
+        assert_eq!(point_count(0), b"000");
+        assert_eq!(point_count(0x2F), b"02F");
+        assert_eq!(point_count(1_500), b"5DC");
     }
 
     #[test]

@@ -150,6 +150,13 @@ impl Sequence {
         self.writes.truncate(self.writes.len() - usize::from(expected == 0));
     }
 
+    /// The kept count is the slots', and so 11 never comes.
+    fn check_count(&self) {
+        let patterns = self.bench.board.points.chunks(40).map(|slot| slot[0]);
+        let slots = patterns.filter(|&pattern| pattern != 0).count();
+        assert_eq!(self.bench.board.effective, slots);
+    }
+
     fn check_journal(&self) {
         let board = &self.bench.board;
         assert_eq!(board.used, self.entries.iter().sum::<usize>());
@@ -165,6 +172,7 @@ impl Sequence {
             assert_eq!(alone.hand(frame).0, 0);
         }
         assert_eq!(self.bench.board.points, alone.board.points);
+        assert_eq!(self.bench.board.effective, alone.board.effective);
         assert_eq!(self.bench.board.columns, alone.board.columns);
         assert_eq!(self.bench.board.integers, alone.board.integers);
         assert_eq!(self.bench.board.flags, alone.board.flags);
@@ -194,13 +202,14 @@ fn a_sequence_leaves_what_the_writes_not_taken_back_leave() {
                 small_accepted += usize::from(number == 0 && small);
             }
             sequence.check_journal();
+            sequence.check_count();
             if dice.roll(10) == 0 {
                 sequence.check_by_replay();
             }
         }
         dropped += sequence.dropped;
     }
-    // The draw reaches what it is for.
+    // The draw reaches what it is for, and 11 isn't among it.
     let seen: Vec<u16> = seen.into_iter().collect();
     assert_eq!(seen, [0, 6, 7, 8, 101, 102, 103, 104, 105, 106, 107, 108]);
     assert!(dropped > 500, "{dropped}");
@@ -216,7 +225,7 @@ fn any_board(dice: &mut Dice) -> Board {
     let mut board = bench.board;
     let length = dice.pick(&[0, 1, 39, 40, 80, 120, 121, 60_000, 60_040]);
     let at = dice.roll(20);
-    match dice.roll(14) {
+    match dice.roll(16) {
         0 => board.points.resize(length, 0x55),
         1 => board.columns = dice.bytes(length.min(700)),
         2 => board.journal.resize(length + 500, 0x50),
@@ -227,6 +236,7 @@ fn any_board(dice: &mut Dice) -> Board {
         7 => board.integers = dice.bytes(length.min(400)),
         8 => board.flags = dice.bytes(length.min(300)),
         9 => board.flags = dice.bytes(300),
+        10 | 11 => board.effective = dice.pick(&[0, 1, 2, 3, 4, 1_500, usize::MAX]),
         _ => {}
     }
     board
@@ -293,7 +303,7 @@ fn any_call_ends_and_writes_only_what_it_may() {
         assert_eq!(reply[reply_length..], reply_before[reply_length..]);
         assert!(number == 0 || board == board_before);
     }
-    let expected: Vec<u16> = (0..=8).chain([10, 12, 13]).chain(101..=108).collect();
+    let expected: Vec<u16> = (0..=8).chain(10..=13).chain(101..=108).collect();
     assert_eq!(seen.into_iter().collect::<Vec<u16>>(), expected);
 }
 
@@ -308,11 +318,13 @@ fn any_step_back_ends_and_a_refused_one_changes_nothing() {
         seen.insert(number);
         if number == 0 {
             assert!(board.used < before.used);
+            assert_eq!(before.effective, before.effective_slots());
+            assert_eq!(board.effective, board.effective_slots());
         } else {
             assert_eq!(board, before);
         }
     }
-    assert_eq!(seen.into_iter().collect::<Vec<u16>>(), [0, 2, 3, 4, 9, 10]);
+    assert_eq!(seen.into_iter().collect::<Vec<u16>>(), [0, 2, 3, 4, 9, 10, 11]);
 }
 
 #[test]

@@ -8,6 +8,7 @@ use second::journal::least_length;
 use second::{Board, Outcome};
 
 mod lets_through;
+mod wrong_counts;
 mod wrong_letters;
 mod wrong_looks;
 mod wrong_sums;
@@ -18,7 +19,7 @@ fn plan(calls: usize) -> Plan {
 
 #[test]
 fn the_second_program_does_not_differ_from_itself_and_all_is_reached() {
-    let tally = run(&mut Here(&SecondProgram), &plan(25_000))
+    let tally = run(&mut Here(&SecondProgram), &plan(30_000))
         .unwrap_or_else(|difference| panic!("{difference}"));
     assert_eq!(tally.rarer_than(1), Vec::<String>::new());
     assert!(tally.to_string().contains("frames by message"));
@@ -287,6 +288,7 @@ fn owned(areas: &Areas) -> Board {
         flags: areas.flags.to_vec(),
         journal: areas.journal.to_vec(),
         used: areas.used,
+        effective: areas.effective,
     }
 }
 
@@ -299,6 +301,7 @@ fn lent(board: &mut Board) -> Areas<'_> {
         flags: &mut board.flags,
         journal: &mut board.journal,
         used: board.used,
+        effective: board.effective,
     }
 }
 
@@ -348,7 +351,7 @@ impl Calls for Wrong {
 
 /// The calls find a difference on this board and say where.
 fn is_caught(wrong: &dyn Calls, name: &str) {
-    let Err(difference) = run(&mut Here(wrong), &plan(8_000)) else {
+    let Err(difference) = run(&mut Here(wrong), &plan(20_000)) else {
         panic!("{name} was not caught");
     };
     assert!(difference.starts_with("difference at call "), "{difference}");
@@ -391,6 +394,13 @@ fn boards_that_look_or_act_wrongly_are_caught() {
     }
     is_caught(&wrong_looks::Tests106Before105, "106 before 105");
     is_caught(&wrong_looks::GoesByTheCheck::default(), "an act that goes by the check");
+}
+
+#[test]
+fn boards_with_wrong_counts_are_caught() {
+    for wrong in wrong_counts::ALL {
+        is_caught(&wrong, &format!("{wrong:?}"));
+    }
 }
 
 #[test]

@@ -102,7 +102,60 @@ fn spoiled_slots_are_listed_as_they_are_stored() {
     bench.board.points[..SLOT].fill(0x12);
     let expected = ["#9920900100112", "1212", "1212", "1212", "12121212", "12121212"].concat();
     assert_eq!(reply(&mut bench, "209001001"), expected);
+    bench.board.effective = 1;
     assert_eq!(reply(&mut bench, "208"), "#99208001");
+}
+
+#[test]
+fn number_of_points_is_the_count_given_up_to_n() {
+    let mut bench = bench();
+    for slots in [0, 1, 20] {
+        for slot in bench.board.points.chunks_mut(SLOT).take(slots) {
+            slot[0] = 0x01;
+        }
+        for effective in 0..=20 {
+            bench.board.effective = effective;
+            assert_eq!(reply(&mut bench, "208"), format!("#99208{effective:03X}"));
+            assert_eq!(bench.board.effective, effective);
+        }
+        bench.board.effective = 21;
+        assert_eq!(bench.ask("208"), (11, Vec::new()));
+    }
+    let mut bench = Bench::fresh(1_500, 60_500);
+    bench.board.effective = 1_500;
+    assert_eq!(bench.ask("208").1[..9], *b"#992085DC");
+    bench.board.effective = 1_501;
+    assert_eq!(bench.ask("208").0, 11);
+}
+
+/// A 244H of so many points of axis 1 from a start.
+fn write(start: usize, count: usize) -> String {
+    format!("244{start:03X}{count:03X}{}", "01001E001E00640000C350".repeat(count))
+}
+
+#[test]
+fn writes_and_clears_keep_the_count_and_other_messages_leave_it() {
+    let mut bench = bench();
+    for (text, effective) in [
+        (write(2, 3).as_str(), 3), // over empty slots
+        (&write(3, 1), 3),         // over an effective point
+        (&write(4, 3), 5),         // over both
+        ("24600F002", 5),          // of empty slots
+        ("246001003", 3),          // of both
+        ("246004001", 2),          // of an effective point
+        ("24E0012C0141", 2),
+        ("24C000C80100000001", 2),
+        ("24B0002581", 2),
+        ("209001014", 2),
+        ("208", 2),
+        (&write(1, 20), 20),
+        ("246001014", 0),
+        ("246001014", 0),
+    ] {
+        assert_eq!(bench.ask(text).0, 0, "{text}");
+        assert_eq!(bench.board.effective, effective, "{text}");
+        assert_eq!(bench.board.effective_slots(), effective, "{text}");
+    }
 }
 
 #[test]
@@ -152,6 +205,7 @@ fn axis_status_leaves_unfitted_axes_out() {
 fn point_write_rewrites_slots_whole() {
     let mut bench = bench();
     bench.board.points.fill(0x5A);
+    bench.board.effective = 20;
     let points = "05001E001F00640000C350FFFFFFFF" // axes 1 and 3
         .to_string()
         + "80FFFFFFFEFFFD80000000"; // axis 8
@@ -182,6 +236,7 @@ fn a_bulk_write_refused_at_its_ninth_point_stores_none() {
 fn point_clear_zeroes_the_named_slots() {
     let mut bench = bench();
     bench.board.points.fill(0x5A);
+    bench.board.effective = 20;
     assert_eq!(bench.ask("246002003"), (0, b"#9924631\r\n".to_vec())); // no content (4-3-25)
     assert_eq!(bench.board.points[..40], [0x5A; 40]);
     assert_eq!(bench.board.points[40..160], [0; 120]);

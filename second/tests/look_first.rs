@@ -27,6 +27,7 @@ const WRONG: u8 = 3;
 fn bench() -> Bench {
     let mut bench = Bench::fresh(3, 2_000);
     bench.board.points.fill(0x11);
+    bench.board.effective = bench.board.effective_slots();
     bench.board.columns.fill(0x22);
     bench.board.integers.fill(0x33);
     bench.board.flags.fill(0x01);
@@ -242,6 +243,35 @@ fn each_refusal_with_reply_areas_of_any_length() {
 }
 
 #[test]
+fn a_wrong_count_with_reply_areas_of_any_length() {
+    let frames: [(u16, &[u8], u8); 7] = [
+        (11, b"!99208@@\r\n", SWITCHED_OFF),
+        (11, b"!992082D\r\n", TRUE),
+        (11, b"!99244@@\r\n", SWITCHED_OFF),
+        (11, b"!99246001000@@\r\n", SWITCHED_OFF),
+        (8, b"!98246001001@@\r\n", SWITCHED_OFF),
+        (7, b"!992082E\r\n", WRONG),
+        (101, b"!99245@@\r\n", SWITCHED_OFF),
+    ];
+    for length in [0, 1_023, 1_024] {
+        for (number, frame, sum) in frames {
+            let mut bench = bench();
+            bench.reply.resize(length, 0xEE);
+            bench.board.effective = 4;
+            is_refused(&mut bench, frame, number, sum);
+        }
+    }
+    // Three points are effective: two are too few for a write, and enough for a 208H.
+    let mut bench = bench();
+    bench.board.effective = 2;
+    is_refused(&mut bench, &asking("246001001"), 11, TRUE);
+    assert_eq!(bench.check(&asking("208")), shown(0x208, 0, 0));
+    assert_eq!(bench.act(&asking("208")).1, b"#99208002C1\r\n");
+    assert_eq!(bench.check(&asking("24E0012C0141")), shown(0x24E, 300, 1));
+    assert_eq!((bench.act(&asking("24E0012C0141")).0, bench.board.effective), (0, 2));
+}
+
+#[test]
 fn where_the_reply_area_is_short_a_check_still_shows_what_would_be_done() {
     for length in [0, 1_023] {
         for (text, message, start, count) in MESSAGES {
@@ -323,6 +353,14 @@ fn what_changed_between_decides() {
         let mut changed = bench.clone();
         spoil(&mut changed);
         assert_eq!(changed.act(&frame).0, number);
+    }
+    let clear = asking("246001002");
+    for (checked, acted, numbers) in [(3, 2, (0, 11)), (4, 3, (11, 0))] {
+        let mut changed = bench.clone();
+        changed.board.effective = checked;
+        assert_eq!(changed.check(&clear).number, numbers.0);
+        changed.board.effective = acted;
+        assert_eq!(changed.act(&clear).0, numbers.1);
     }
     // The other way round, and with no check at all.
     bench.settings.station = 0x98;
@@ -475,7 +513,7 @@ fn on_drawn_boards_check_and_act_are_one_answer() {
         }
     }
     let given: Vec<u16> = numbers.keys().copied().collect();
-    let all = [0, 2, 3, 4, 5, 6, 7, 8, 10, 12, 13].into_iter().chain(101..=108);
+    let all = [0, 2, 3, 4, 5, 6, 7, 8, 10, 11, 12, 13].into_iter().chain(101..=108);
     assert_eq!(given, all.collect::<Vec<u16>>(), "{numbers:?}");
     let shown: Vec<u16> = messages.into_keys().collect();
     let mut all: Vec<u16> = MESSAGES.iter().map(|message| message.1).collect();
@@ -576,7 +614,14 @@ fn a_run_fails_whose_own_model_breaks_the_rule() {
         let Err(how) = run_with(&model, &mut Here(&wrong), &plan) else {
             panic!("{wrong:?} was not found");
         };
-        assert!(how.starts_with("rule of looking first broken at call "), "{how}");
+        // Some leave slots that the count isn't of, which the rule of the kept count finds too.
+        let counted = matches!(
+            wrong,
+            WrongLooks::StoresWhileChecking
+                | WrongLooks::ActsOnTheFirstPointAlone
+                | WrongLooks::ActsOnNothing
+        ) && how.starts_with("rule of the kept count broken at call ");
+        assert!(counted || how.starts_with("rule of looking first broken at call "), "{how}");
         assert!(how.contains(" of seed 20261115\n") && how.contains("\npoints: "), "{how}");
     }
 }

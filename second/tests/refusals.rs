@@ -263,6 +263,114 @@ fn number_10_new_areas_and_first_numbers() {
     }
 }
 
+/// A good call on a board of two points, so many of them effective, with this count.
+fn with_count(id_and_content: &str, slots: usize, effective: usize) -> Call {
+    let mut call = Call::good(id_and_content);
+    for slot in call.board.points.chunks_mut(40).take(slots) {
+        slot[0] = 0x80;
+    }
+    call.board.effective = effective;
+    call
+}
+
+/// Counts near those of two points, and some of which only the low bytes are.
+const COUNTS: [usize; 12] =
+    [0, 1, 2, 3, 4, 0x100, 0x102, 0x1_0001, 1 << 32, 1 << 32 | 2, 1 << 63, usize::MAX];
+
+#[test]
+fn number_11_counts_that_the_slots_have_not() {
+    let point = "24400200101001E001E00640000C350";
+    for slots in 0..=2 {
+        for effective in COUNTS {
+            for text in [point, "246001001", "246002001", "246001002"] {
+                let mut call = with_count(text, slots, effective);
+                if effective == slots {
+                    assert_eq!(call.make().number, 0, "{text} {slots}");
+                } else {
+                    assert_eq!(call.refused(), 11, "{text} {slots} {effective}");
+                }
+            }
+        }
+    }
+}
+
+#[test]
+fn number_11_whatever_the_content() {
+    for (text, number) in [
+        ("244", 103),
+        ("244g", 102),
+        ("24400100", 103),
+        ("244001001", 103),
+        ("244001000", 105),
+        ("24400300101001E001E00640000C350", 106),
+        ("24400100110001E001E00640000C350", 107),
+        ("246", 103),
+        ("24600100/", 102),
+        ("246001000", 105),
+        ("246003001", 106),
+    ] {
+        assert_eq!(with_count(text, 1, 1).refused(), number, "{text}");
+        assert_eq!(with_count(text, 1, 2).refused(), 11, "{text}");
+        assert_eq!(with_count(text, 0, usize::MAX).refused(), 11, "{text}");
+    }
+    for (text, number) in [("2080", 103), ("208g", 102)] {
+        assert_eq!(with_count(text, 0, 2).refused(), number, "{text}");
+        assert_eq!(with_count(text, 2, 3).refused(), 11, "{text}");
+    }
+}
+
+#[test]
+fn number_11_at_208_above_n_alone() {
+    for slots in 0..=2 {
+        for effective in COUNTS {
+            let mut call = with_count("208", slots, effective);
+            match effective <= 2 {
+                true => assert_eq!(call.make().number, 0, "{slots} {effective}"),
+                false => assert_eq!(call.refused(), 11, "{slots} {effective}"),
+            }
+        }
+    }
+}
+
+#[test]
+fn number_11_at_no_other_message() {
+    for (text, number) in [
+        ("2000123456789", 0),
+        ("209001002", 0),
+        ("20D0002580008", 0),
+        ("20E000C801", 0),
+        ("2100012C01", 0),
+        ("212FF", 0),
+        ("24B0002581", 0),
+        ("24C000C80100000001", 0),
+        ("24E0012C0142", 0),
+        ("245001001", 101),
+        ("2\r\n", 101),
+        ("20F", 101),
+        ("209003001", 106),
+        ("24E0012C01", 103),
+    ] {
+        for (slots, effective) in [(0, 1), (2, 1), (1, 3), (0, usize::MAX)] {
+            let mut call = with_count(text, slots, effective);
+            assert_eq!(call.make().number, number, "{text} {slots} {effective}");
+            assert_eq!(call.board.effective, effective, "{text}");
+        }
+    }
+}
+
+#[test]
+fn number_11_in_each_release_with_either_sum() {
+    for release in [1, 2] {
+        for (sc, sum) in [("2D", 1), ("@@", 2)] {
+            let mut call = with_count("208", 0, 3);
+            call.settings.release = release;
+            call.frame = ["!99208", sc, "\r\n"].concat().into_bytes();
+            assert_eq!(call.refused(), 11);
+            assert_eq!(call.make(), Outcome { number: 11, reply_length: 0, sum });
+        }
+    }
+}
+
 #[test]
 fn number_12_marks_where_they_are_forbidden() {
     let with = |unchecked: u8, sc: &[u8]| {
@@ -333,8 +441,8 @@ fn number_4_entries_of_integers_and_flags() {
     }
 }
 
-/// Tests 1 to 8, 10, 12 and 13, in their order; where the SC is wrong 12 doesn't hold.
-const SILENT: [u16; 11] = [1, 2, 3, 10, 4, 5, 13, 6, 12, 7, 8];
+/// Tests 1 to 8 and 10 to 13, in their order; where the SC is wrong 12 doesn't hold.
+const SILENT: [u16; 12] = [1, 2, 3, 10, 4, 5, 13, 6, 12, 7, 8, 11];
 
 /// Those of some numbers whose bit is set, in their order.
 fn chosen(numbers: &[u16], set: usize) -> Vec<u16> {
@@ -355,18 +463,26 @@ fn spoil(call: &mut Call, parts: &mut [&str; 3], number: u16) {
         6 => parts[0] = "?",
         12 => call.settings.unchecked = 0,
         7 => parts[2] = "  ",
+        11 => call.board.effective = 3,
         _ => parts[1] = "9a",
     }
 }
 
 #[test]
-fn among_1_to_8_10_12_and_13_the_earliest_is_given() {
+fn among_1_to_8_and_10_to_13_the_earliest_is_given() {
     for set in 1..1 << SILENT.len() {
         let broken = chosen(&SILENT, set);
         let wrong = broken.contains(&7);
-        let earliest = broken.iter().copied().find(|&number| number != 12 || !wrong);
-        // An unknown message besides: silent refusals come before the error replies.
-        for (message, release) in [("208", 1), ("299", 1), ("208", 2), ("299", 2)] {
+        // An unknown message besides: silent refusals come before the error replies, but 11 isn't of it.
+        for (message, release) in
+            [("208", 1), ("299", 1), ("208", 2), ("299", 2), ("246", 1), ("244", 2)]
+        {
+            let holds = |number: u16| match number {
+                11 => message != "299",
+                12 => !wrong,
+                _ => true,
+            };
+            let earliest = broken.iter().copied().find(|&number| holds(number)).or(Some(101));
             let mut call = Call::good(message);
             call.settings.release = release;
             let mut parts = ["!", "99", "@@"];
@@ -380,9 +496,9 @@ fn among_1_to_8_10_12_and_13_the_earliest_is_given() {
 }
 
 #[test]
-fn step_back_tests_2_3_10_4_then_9() {
-    for set in 0..32 {
-        let broken = chosen(&[2, 3, 10, 4, 9], set);
+fn step_back_tests_2_3_10_4_11_then_9() {
+    for set in 0..64 {
+        let broken = chosen(&[2, 3, 10, 4, 11, 9], set);
         let mut board = Call::good("208").board;
         for &number in broken.iter().rev() {
             match number {
@@ -390,6 +506,7 @@ fn step_back_tests_2_3_10_4_then_9() {
                 3 => board.columns.push(0),
                 10 => board.integers.push(0),
                 4 => board.journal.resize(board.used, 0),
+                11 => board.effective = 1,
                 _ => board.used = 0,
             }
         }
@@ -522,6 +639,7 @@ fn an_error_reply_depends_on_frame_settings_and_n_only() {
     let first = Call::good("2440010011000000000000000000000");
     let mut other = first.clone();
     other.board.points.fill(0x55);
+    other.board.effective = 2;
     other.board.columns.fill(0x66);
     other.board.integers.fill(0x77);
     other.board.flags.fill(0x88);

@@ -277,6 +277,7 @@ fn writes_with_small_letters_are_entered_and_stepped_back_as_the_capitals() {
         let [mut capitals, mut small] = [bench(2), bench(2)];
         for bench in [&mut capitals, &mut small] {
             bench.board.points.fill(0x11);
+            bench.board.effective = bench.board.effective_slots();
             bench.board.columns.fill(0x22);
             bench.board.integers.fill(0x33);
         }

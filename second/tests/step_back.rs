@@ -204,6 +204,7 @@ fn a_full_journal_drops_its_oldest_and_no_more_than_needed() {
 fn the_longest_entries_fit_the_least_journal() {
     let mut bench = Bench::fresh(1_500, 60_500);
     bench.board.points.fill(0x11);
+    bench.board.effective = 1_500;
     for _ in 0..2 {
         accept(&mut bench, "2460015DC");
         assert_eq!(bench.board.used, 60_005);
@@ -254,10 +255,79 @@ fn bytes_beyond_the_used_length_are_00_after_a_write_and_a_step_back() {
 fn spoiled_old_bytes_come_back_as_they_were() {
     let mut bench = small();
     bench.board.points.fill(0x5A);
+    bench.board.effective = bench.board.effective_slots();
     let before = bench.board.clone();
     accept(&mut bench, "2440010010100000000000000000001");
     assert_eq!(bench.step_back(), 0);
     assert_eq!(bench.board, before);
+}
+
+#[test]
+fn the_count_goes_back_with_the_slots() {
+    let mut bench = Bench::fresh(3, 900);
+    let counts: Vec<usize> = [
+        "24400100201000100010001000000010100010001000100000002",
+        "24E0012C0141",
+        "246001001",
+        "24C000C80100000001",
+        "2440020010100010001000100000003",
+        "24B0002581",
+        "2440010010100010001000100000003",
+        "246001003",
+    ]
+    .iter()
+    .map(|text| {
+        let before = bench.board.effective;
+        accept(&mut bench, text);
+        before
+    })
+    .collect();
+    assert_eq!((counts.as_slice(), bench.board.effective), (&[0, 2, 2, 1, 1, 1, 1, 2][..], 0));
+    for effective in counts.into_iter().rev() {
+        assert_eq!(bench.step_back(), 0);
+        assert_eq!(bench.board.effective, effective);
+        assert_eq!(bench.board.effective_slots(), effective);
+    }
+    assert_eq!((bench.step_back(), bench.board.effective), (9, 0));
+}
+
+#[test]
+fn a_wrong_count_refuses_a_step_back_of_each_kind() {
+    for text in [
+        "2440010010100010001000100000003",
+        "246001001",
+        "24E0012C0141",
+        "24C000C80100000001",
+        "24B0002581",
+    ] {
+        let mut bench = Bench::fresh(3, 900);
+        accept(&mut bench, "2440020010100010001000100000003");
+        let before = bench.board.clone();
+        accept(&mut bench, text);
+        let slots = bench.board.effective;
+        for effective in [0, 1, 2, 3, 4, slots | 1 << 8, slots | 1 << 32, usize::MAX] {
+            bench.board.effective = effective;
+            let after = bench.board.clone();
+            if effective != slots {
+                assert_eq!((bench.step_back(), &bench.board), (11, &after), "{text} {effective}");
+            }
+        }
+        bench.board.effective = slots;
+        assert_eq!((bench.step_back(), bench.board), (0, before), "{text}");
+    }
+}
+
+#[test]
+fn spoiled_old_slots_are_counted_as_they_come_back() {
+    let mut bench = Bench::fresh(2, 580);
+    accept(&mut bench, "246001002");
+    // The old slots' patterns stand behind the entry's five bytes.
+    bench.board.journal[5] = 0xF0;
+    bench.board.journal[45] = 0x01;
+    assert_eq!((bench.step_back(), bench.board.effective), (0, 2));
+    accept(&mut bench, "246001002");
+    bench.board.journal[5..45].fill(0);
+    assert_eq!((bench.step_back(), bench.board.effective), (0, 1));
 }
 
 #[test]

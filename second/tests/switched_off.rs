@@ -304,6 +304,7 @@ const MESSAGES: [&str; 12] = [
 fn used_bench(unchecked: u8) -> Bench {
     let mut bench = bench(unchecked);
     bench.board.points.fill(0x11);
+    bench.board.effective = bench.board.effective_slots();
     bench.board.columns.fill(0x22);
     bench.board.integers.fill(0x33);
     bench

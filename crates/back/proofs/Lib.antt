@@ -1,1 +1,2 @@
 pub mod Backing
+pub mod Recounting

@@ -1,4 +1,4 @@
--- Document 01, "Journal" and "Refusal numbers", and document 02, requests a and f: what a step back leaves, and its contract.
+-- Document 01, "Journal" and "Refusal numbers", and document 02, requests a, b and f: what a step back leaves, and its contract.
 use mathlib.Core.Path.{_≡_}
 use mathlib.Core.Bool.{cond}
 use lib.Dec.{eqb}
@@ -8,7 +8,7 @@ use Rattle.calls.specs.Calls.{Areas, Outcome, lengthsOf, unanswered, steppedBac
 use Rattle.refusals.specs.Refusals.{backRefusalOf}
 use Rattle.back.specs.declared.Back.{Back}
 
--- "The step back tests 2, 3, 4, then 9", and 10 after 3 (02, a); it has no frame, so no sum is tested (02, f)
+-- "The step back tests 2, 3, 4, then 9", 10 after 3 (02, a) and 11 after 4 (02, b); it has no frame, so no sum is tested (02, f)
 unfoldable pub backOf : Areas → Outcome
 backOf a =
     cond (eqb (backRefusalOf a) 0) (unanswered Untested 0 (steppedBack (heldIn (lengthsOf a)) a)) (unanswered Untested (backRefusalOf a) a)

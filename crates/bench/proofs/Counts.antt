@@ -9,11 +9,12 @@ use Rattle.finder.specs.declared.Found.{Found}
 use Rattle.finder.specs.declared.Found.the-variants.{Frame, Nothing, Wait, TooLong}
 use Rattle.finder.specs.Find.{findIn}
 use Rattle.finder.proofs.Finding.{Within, within}
+use Rattle.calls.specs.declared.Kept.{Kept}
 use Rattle.bench.specs.Turns.{Less}
 use Rattle.bench.specs.declared.Turn.{Turn}
 use Rattle.bench.specs.declared.Turn.the-variants.{On}
 
-pub on : {r : Turn} {have used : ℕ} (n : ℕ) → Less r n → r ≡ On have used → have ≤ n
+pub on : {r : Turn} {have : ℕ} {kept : Kept} (n : ℕ) → Less r n → r ≡ On have kept → have ≤ n
 on n w e = subst (λ (x : Turn). Less x n) e w
 
 module _ (line : List ℕ) (have : ℕ) (h : have ≤ length line) where

@@ -4,5 +4,5 @@ use Rattle.bench.specs.declared.Turn.{Turn}
 use Rattle.bench.specs.declared.Turn.the-variants.{On, End}
 
 abbrev pub Less : Turn → ℕ → Type 0
-Less (On have used) n = have ≤ n
+Less (On have kept) n = have ≤ n
 Less End n = Unit {0}

@@ -14,9 +14,9 @@ ghost use Prim.Native.Nat.{_+_, _≤_};
 ghost use lib.ListN.{length};
 ghost use Rattle.bench.specs.Turns.{Less};
 
-// What a turn leaves: so many bytes received and the journal's used length, or the end of the input.
+// What a turn leaves: so many bytes received and what is kept, or the end of the input.
 pub enum Turn {
-    On { have: usize, used: usize },
+    On { have: usize, kept: Kept },
     End,
 }
 
@@ -26,8 +26,8 @@ fn say(reply: &[u8], length: usize) {
     }
 }
 
-// One frame answered, with station 99H, release 1, '@@' allowed, all eight axes and zero records, integers from 200 and flags from 600 on; the journal's
-// used length.
+// One frame answered, with station 99H, release 1, '@@' allowed, all eight axes and zero records, integers from 200 and flags from 600 on; what is
+// kept.
 fn serve(
     frame: &[u8],
     points: &mut [u8],
@@ -35,8 +35,8 @@ fn serve(
     integers: &mut [u8],
     flags: &mut [u8],
     journal: &mut [u8],
-    used: usize,
-) -> usize {
+    kept: Kept,
+) -> Kept {
     let mut reply = [0u8; 1024];
     let zeros = [0u8; 72];
     let settings = Settings {
@@ -45,7 +45,6 @@ fn serve(
         unchecked: true,
         fitted: 0xFF,
     };
-    let kept = Kept { used };
     let firsts = Firsts {
         integer: 200,
         flag: 600,
@@ -64,8 +63,7 @@ fn serve(
         &mut reply,
     );
     say(&reply, answered.length);
-    let after = answered.kept;
-    after.used
+    answered.kept
 }
 
 // One read after the `have` bytes at the start, and how many bytes came: 0 at the end of the input.
@@ -78,7 +76,7 @@ fn fill(line: &mut [u8], have: usize) -> usize
 }
 
 // What was dropped goes, and more is read. A line of 2,048 bytes has room after "wait".
-fn pull(line: &mut [u8], drop: usize, have: usize, used: usize) -> Turn
+fn pull(line: &mut [u8], drop: usize, have: usize, kept: Kept) -> Turn
     requires { ⌜ (drop ≤ have) × (have ≤ length (now line)) ⌝ }
     ensures { λ r. ⌜ Less r (length (now (line .entry))) ⌝ }
 {
@@ -93,7 +91,7 @@ fn pull(line: &mut [u8], drop: usize, have: usize, used: usize) -> Turn
     }
     Turn::On {
         have: left + n,
-        used,
+        kept,
     }
 }
 
@@ -106,7 +104,7 @@ fn go_on(
     integers: &mut [u8],
     flags: &mut [u8],
     journal: &mut [u8],
-    used: usize,
+    kept: Kept,
 ) -> Turn
     requires { ⌜ have ≤ length (now line) ⌝ }
     ensures { λ r. ⌜ Less r (length (now (line .entry))) ⌝ }
@@ -118,22 +116,22 @@ fn go_on(
             used: end,
         } => {
             let frame = frame_in(&line[..have], found);
-            let left = serve(frame, points, columns, integers, flags, journal, used);
+            let left = serve(frame, points, columns, integers, flags, journal, kept);
             move_run(&mut *line, end, have - end);
             Turn::On {
                 have: have - end,
-                used: left,
+                kept: left,
             }
         }
         Found::TooLong { drop } => {
             move_run(&mut *line, drop, have - drop);
             Turn::On {
                 have: have - drop,
-                used,
+                kept,
             }
         }
-        Found::Nothing { drop } => pull(&mut *line, drop, have, used),
-        Found::Wait { drop } => pull(&mut *line, drop, have, used),
+        Found::Nothing { drop } => pull(&mut *line, drop, have, kept),
+        Found::Wait { drop } => pull(&mut *line, drop, have, kept),
     }
 }
 
@@ -147,7 +145,10 @@ fn all(
 ) {
     let mut turns = u64::MAX;
     let mut have: usize = 0;
-    let mut used: usize = 0;
+    let mut kept = Kept {
+        used: 0,
+        effective: 0,
+    };
     while turns > 0 {
         match go_on(
             &mut *line,
@@ -157,11 +158,11 @@ fn all(
             &mut *integers,
             &mut *flags,
             &mut *journal,
-            used,
+            kept,
         ) {
-            Turn::On { have: h, used: u } => {
+            Turn::On { have: h, kept: k } => {
                 have = h;
-                used = u;
+                kept = k;
             }
             Turn::End => {
                 return;

@@ -9,7 +9,7 @@ use Rattle.link.proofs.Checking.{same-gives}
 use Rattle.board.specs.Calls.{CabinetGives}
 
 pub coded : {f : Call → Outcome} {c : Call} {r : Answered} {areas′ : Areas} {reply′ : List ℕ} {code : ℕ} → code ≡ sumCode (r .sum) → Gives f c r areas′ reply′
-    → CabinetGives f c (r .number) (r .length) (r .kept .used) code areas′ reply′
+    → CabinetGives f c (r .number) (r .length) (r .kept .used) (r .kept .effective) code areas′ reply′
 coded e a =
     record {
       gives =
@@ -25,6 +25,6 @@ coded e a =
     }
 
 -- so it is of an equal outcome
-pub same-cabinet : {f g : Call → Outcome} (c : Call) {n l u s : ℕ} {areas′ : Areas} {reply′ : List ℕ} → f c ≡ g c → CabinetGives f c n l u s areas′ reply′
-    → CabinetGives g c n l u s areas′ reply′
+pub same-cabinet : {f g : Call → Outcome} (c : Call) {n l u v s : ℕ} {areas′ : Areas} {reply′ : List ℕ} → f c ≡ g c → CabinetGives f c n l u v s areas′ reply′
+    → CabinetGives g c n l u v s areas′ reply′
 same-cabinet c e x = coded (x .sum-is) (same-gives c e (x .gives))

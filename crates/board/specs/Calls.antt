@@ -51,25 +51,26 @@ pub record Receives (f : Found) (code start length drop : ℕ) : Type 0 where
 abbrev pub settingsOf : ℕ → ℕ → ℕ → ℕ → Settings
 settingsOf fitted station release unchecked = record { station = station; release = release; unchecked = not (eqb unchecked 0); fitted = fitted }
 
-abbrev pub keptOf : ℕ → Kept
-keptOf used = record { used = used }
+-- the used length, and the count of effective points (02, b)
+abbrev pub keptOf : ℕ → ℕ → Kept
+keptOf used effective = record { used = used; effective = effective }
 
 -- the first numbers (02, a)
 abbrev pub firstsOf : ℕ → ℕ → Firsts
 firstsOf integer flag = record { integer = integer; flag = flag }
 
-abbrev pub answeredOf : ℕ → ℕ → ℕ → Told → Answered
-answeredOf number length used told = record { number = number; length = length; kept = keptOf used; sum = told }
+abbrev pub answeredOf : ℕ → ℕ → Kept → Told → Answered
+answeredOf number length kept told = record { number = number; length = length; kept = kept; sum = told }
 
 -- what `cabinet_answer` and `cabinet_act` give of a call: its outcome, with the code of what it tells
-pub record CabinetGives (outcomeOf : Call → Outcome) (c : Call) (number length used sum : ℕ) (areas′ : Areas) (reply′ : List ℕ) : Type 0 where
-  pub gives : Gives outcomeOf c (answeredOf number length used (outcomeOf c .sum)) areas′ reply′
+pub record CabinetGives (outcomeOf : Call → Outcome) (c : Call) (number length used effective sum : ℕ) (areas′ : Areas) (reply′ : List ℕ) : Type 0 where
+  pub gives : Gives outcomeOf c (answeredOf number length (keptOf used effective) (outcomeOf c .sum)) areas′ reply′
   pub sum-is : sum ≡ sumCode (outcomeOf c .sum)
 
-abbrev pub CabinetAnswers : Call → ℕ → ℕ → ℕ → ℕ → Areas → List ℕ → Type 0
+abbrev pub CabinetAnswers : Call → ℕ → ℕ → ℕ → ℕ → ℕ → Areas → List ℕ → Type 0
 CabinetAnswers = CabinetGives answerOf
 
-abbrev pub CabinetActs : Call → ℕ → ℕ → ℕ → ℕ → Areas → List ℕ → Type 0
+abbrev pub CabinetActs : Call → ℕ → ℕ → ℕ → ℕ → ℕ → Areas → List ℕ → Type 0
 CabinetActs = CabinetGives actOf
 
 -- what `cabinet_check` gives of a call: what is shown of what the check answers, and the code of what it tells (02, g)
@@ -83,5 +84,5 @@ pub record CabinetChecks (c : Call) (number sum message start count : ℕ) : Typ
   pub start-is : start ≡ shown c .start
   pub count-is : count ≡ shown c .count
 
-abbrev pub backedOf : ℕ → ℕ → Back
-backedOf number used = record { number = number; kept = keptOf used }
+abbrev pub backedOf : ℕ → ℕ → ℕ → Back
+backedOf number used effective = record { number = number; kept = keptOf used effective }

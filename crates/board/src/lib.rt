@@ -76,6 +76,7 @@ pub extern "C" fn cabinet_check(
     flags: &[u8],
     journal: &[u8],
     used: usize,
+    effective: usize,
     axes: &[u8],
     fitted: u8,
     station: u8,
@@ -91,7 +92,7 @@ pub extern "C" fn cabinet_check(
     ensures { λ r. ⌜ CabinetChecks
         (callOf (now (frame .entry)) (axesIn (now (axes .entry))) (settingsOf fitted station release unchecked) []
         (areasOf (now (points .entry)) (now (columns .entry)) (now (integers .entry)) (now (flags .entry)) (now (journal .entry))
-        (keptOf used) (firstsOf «first_integer» «first_flag»)))
+        (keptOf used effective) (firstsOf «first_integer» «first_flag»)))
         r (now (sum .exit)) (now (message .exit)) (now (start .exit)) (now (count .exit)) ⌝ }
 {
     let firsts = Firsts {
@@ -105,7 +106,7 @@ pub extern "C" fn cabinet_check(
         integers,
         flags,
         journal,
-        Kept { used },
+        Kept { used, effective },
         firsts,
         read_axes(axes),
         settings_by(fitted, station, release, unchecked),
@@ -130,6 +131,7 @@ pub extern "C" fn cabinet_act(
     flags: &mut [u8],
     journal: &mut [u8],
     used: &mut usize,
+    effective: &mut usize,
     axes: &[u8],
     fitted: u8,
     station: u8,
@@ -144,13 +146,16 @@ pub extern "C" fn cabinet_act(
     ensures { λ r. ⌜ CabinetActs
         (callOf (now (frame .entry)) (axesIn (now (axes .entry))) (settingsOf fitted station release unchecked) (now (reply .entry))
         (areasOf (now (points .entry)) (now (columns .entry)) (now (integers .entry)) (now (flags .entry)) (now (journal .entry))
-        (keptOf (now (used .entry))) (firstsOf «first_integer» «first_flag»)))
-        r (now (length .exit)) (now (used .exit)) (now (sum .exit))
+        (keptOf (now (used .entry)) (now (effective .entry))) (firstsOf «first_integer» «first_flag»)))
+        r (now (length .exit)) (now (used .exit)) (now (effective .exit)) (now (sum .exit))
         (areasOf (now (points .exit)) (now (columns .exit)) (now (integers .exit)) (now (flags .exit)) (now (journal .exit))
-        (keptOf (now (used .exit))) (firstsOf «first_integer» «first_flag»)) (now (reply .exit)) ⌝ }
+        (keptOf (now (used .exit)) (now (effective .exit))) (firstsOf «first_integer» «first_flag»)) (now (reply .exit)) ⌝ }
 {
     let settings = settings_by(fitted, station, release, unchecked);
-    let kept = Kept { used: *used };
+    let kept = Kept {
+        used: *used,
+        effective: *effective,
+    };
     let firsts = Firsts {
         integer: first_integer,
         flag: first_flag,
@@ -171,6 +176,7 @@ pub extern "C" fn cabinet_act(
     let after = answered.kept;
     let told = answered.sum;
     *used = after.used;
+    *effective = after.effective;
     *length = answered.length;
     *sum = sum_code(told);
     answered.number
@@ -186,6 +192,7 @@ pub extern "C" fn cabinet_answer(
     flags: &mut [u8],
     journal: &mut [u8],
     used: &mut usize,
+    effective: &mut usize,
     axes: &[u8],
     fitted: u8,
     station: u8,
@@ -200,10 +207,10 @@ pub extern "C" fn cabinet_answer(
     ensures { λ r. ⌜ CabinetAnswers
         (callOf (now (frame .entry)) (axesIn (now (axes .entry))) (settingsOf fitted station release unchecked) (now (reply .entry))
         (areasOf (now (points .entry)) (now (columns .entry)) (now (integers .entry)) (now (flags .entry)) (now (journal .entry))
-        (keptOf (now (used .entry))) (firstsOf «first_integer» «first_flag»)))
-        r (now (length .exit)) (now (used .exit)) (now (sum .exit))
+        (keptOf (now (used .entry)) (now (effective .entry))) (firstsOf «first_integer» «first_flag»)))
+        r (now (length .exit)) (now (used .exit)) (now (effective .exit)) (now (sum .exit))
         (areasOf (now (points .exit)) (now (columns .exit)) (now (integers .exit)) (now (flags .exit)) (now (journal .exit))
-        (keptOf (now (used .exit))) (firstsOf «first_integer» «first_flag»)) (now (reply .exit)) ⌝ }
+        (keptOf (now (used .exit)) (now (effective .exit))) (firstsOf «first_integer» «first_flag»)) (now (reply .exit)) ⌝ }
 {
     cabinet_act(
         frame,
@@ -213,6 +220,7 @@ pub extern "C" fn cabinet_answer(
         flags,
         journal,
         used,
+        effective,
         axes,
         fitted,
         station,
@@ -235,17 +243,21 @@ pub extern "C" fn cabinet_step_back(
     flags: &mut [u8],
     journal: &mut [u8],
     used: &mut usize,
+    effective: &mut usize,
     first_integer: u16,
     first_flag: u16,
 ) -> u16
     ensures { λ r. ⌜ StepsBack
         (areasOf (now (points .entry)) (now (columns .entry)) (now (integers .entry)) (now (flags .entry)) (now (journal .entry))
-        (keptOf (now (used .entry))) (firstsOf «first_integer» «first_flag»))
-        (backedOf r (now (used .exit)))
+        (keptOf (now (used .entry)) (now (effective .entry))) (firstsOf «first_integer» «first_flag»))
+        (backedOf r (now (used .exit)) (now (effective .exit)))
         (areasOf (now (points .exit)) (now (columns .exit)) (now (integers .exit)) (now (flags .exit)) (now (journal .exit))
-        (keptOf (now (used .exit))) (firstsOf «first_integer» «first_flag»)) ⌝ }
+        (keptOf (now (used .exit)) (now (effective .exit))) (firstsOf «first_integer» «first_flag»)) ⌝ }
 {
-    let kept = Kept { used: *used };
+    let kept = Kept {
+        used: *used,
+        effective: *effective,
+    };
     let firsts = Firsts {
         integer: first_integer,
         flag: first_flag,
@@ -253,5 +265,6 @@ pub extern "C" fn cabinet_step_back(
     let back = step_back(points, columns, integers, flags, journal, kept, firsts);
     let after = back.kept;
     *used = after.used;
+    *effective = after.effective;
     back.number
 }

@@ -1,19 +1,20 @@
 -- Laws of the areas by their tags. Only `by-tag` goes through the tags one after the other.
 use Prim.Native.Nat.{ℕ, _≤_}
-use mathlib.Core.Path.{_≡_, refl, sym, ap, subst}
-use mathlib.Core.Bool.{Bool, true, false}
+use mathlib.Core.Path.{_≡_, refl, sym, ap, _∙_, subst}
+use mathlib.Core.Bool.{Bool, true, false, cond}
 use mathlib.Core.List.{[]}
 use native.Mathlib.Omega.{arith}
 use lib.Dec.{eqb}
 use lib.ListN.{length}
-use borrow.Author.Tests.{eqb-true}
+use borrow.Author.Tests.{eqb-true, eqb-false}
 use Rattle.kinds.specs.declared.Kind.{Kind}
 use Rattle.kinds.specs.declared.Held.{Held}
 use Rattle.kinds.specs.Kinds.{pointsTag, columnsTag, integersTag, flagsTag, pointsOf, columnsOf, integersOf, flagsOf, kindOf, holds, sizeOf, put}
 use Rattle.kinds.proofs.Known.{within}
-use Rattle.journal.specs.Journal.{puts, entryFor}
+use Rattle.points.specs.Point.{effectiveIn}
+use Rattle.journal.specs.Journal.{Entry, puts, entryFor}
 use Rattle.journal.proofs.Fitting.{puts-other}
-use Rattle.calls.specs.Calls.{Areas, areaIn, putIn}
+use Rattle.calls.specs.Calls.{Areas, areaIn, countAfter, putIn}
 use Rattle.calls.specs.Laws.{PutOwn, PutOther}
 
 -- a tag that no kind has: nothing is held, and there is no area
@@ -47,6 +48,16 @@ each-long h a p c n f = by-tag (λ (t : ℕ). length (areaIn t a) ≡ sizeOf (ki
 pub same-areas : (a a′ : Areas) → a .points ≡ a′ .points → a .columns ≡ a′ .columns → a .integers ≡ a′ .integers → a .flags ≡ a′ .flags → (tag : ℕ)
     → areaIn tag a ≡ areaIn tag a′
 same-areas a a′ p c n f = by-tag (λ (t : ℕ). areaIn t a ≡ areaIn t a′) p c n f (λ t z. rw (z .area a, z .area a′))
+
+-- a true count is true again after an entry of any kind is put in: the slots are counted, or they are as they were
+pub counted-after : (h : Held) (e : Entry) (a : Areas) → a .kept .effective ≡ effectiveIn (h .points) (a .points)
+    → countAfter h e a ≡ effectiveIn (h .points) (puts (pointsOf h) e (a .points))
+counted-after h e a c = go (eqb (e .tag) pointsTag) refl
+  where
+    go : (b : Bool) → eqb (e .tag) pointsTag ≡ b
+        → cond b (effectiveIn (h .points) (puts (pointsOf h) e (a .points))) (a .kept .effective) ≡ effectiveIn (h .points) (puts (pointsOf h) e (a .points))
+    go true q = refl
+    go false q = c ∙ ap (effectiveIn (h .points)) (puts-other (pointsOf h) e (a .points) (eqb-false _ _ q))
 
 -- the laws of specs/Laws.antt
 pub put-own : PutOwn

@@ -1,4 +1,4 @@
--- Document 01, "The areas", and document 02, requests a, f and l: all that is handed over with a frame, and all that comes back.
+-- Document 01, "The areas", and document 02, requests a, b, f and l: all that is handed over with a frame, and all that comes back.
 use Prim.Native.Nat.{ℕ}
 use mathlib.Core.Bool.{cond}
 use mathlib.Core.List.{List, []}
@@ -10,6 +10,7 @@ use Rattle.kinds.specs.declared.Firsts.{Firsts}
 use Rattle.kinds.specs.Kinds.{pointsTag, columnsTag, integersTag, flagsTag, pointsOf, columnsOf, integersOf, flagsOf, kindOf, sizeOf, runOf}
 use Rattle.journal.specs.Journal.{Entry, encodes, entriesIn, added, areaOf, lastEntry, others, puts, entryFor}
 use Rattle.axes.specs.declared.Axes.{Axes}
+use Rattle.points.specs.Point.{effectiveIn}
 use Rattle.calls.specs.declared.Settings.{Settings}
 use Rattle.calls.specs.declared.Kept.{Kept}
 use Rattle.frames.specs.declared.checks.Sum.the-variants.{True, SwitchedOff, Wrong}
@@ -66,11 +67,12 @@ sentOf frame axes settings reply = record { frame = frame; axes = axes; settings
 abbrev pub callOf : List ℕ → Axes → Settings → List ℕ → Areas → Call
 callOf frame axes settings reply areas = record { sent = sentOf frame axes settings reply; areas = areas }
 
--- "Fresh is all zero bytes and used length 0", "zero when fresh" (02, a), on a board that holds so much, with a journal of so many bytes
+-- "Fresh is all zero bytes and used length 0", "zero when fresh" (02, a), "from count 0" (02, b), on a board that holds so much, with a journal of so
+-- many bytes
 abbrev pub fresh : Held → ℕ → Areas
 fresh held size =
     areasOf (replicate (sizeOf (pointsOf held)) 0) (replicate (sizeOf columnsOf) 0) (replicate (sizeOf (integersOf held)) 0)
-    (replicate (sizeOf (flagsOf held)) 0) (replicate size 0) (record { used = 0 }) (held .firsts)
+    (replicate (sizeOf (flagsOf held)) 0) (replicate size 0) (record { used = 0; effective = 0 }) (held .firsts)
 
 -- the lengths of the areas that things are held in, and the first numbers
 abbrev pub lengthsOf : Areas → Lengths
@@ -83,11 +85,16 @@ areaIn tag a =
     cond (eqb tag pointsTag) (a .points)
     (cond (eqb tag columnsTag) (a .columns) (cond (eqb tag integersTag) (a .integers) (cond (eqb tag flagsTag) (a .flags) [])))
 
+-- "make each write, clear and step back keep it true" (02, b): the count after an entry's bytes are put in; those of another kind than points leave it
+abbrev pub countAfter : Held → Entry → Areas → ℕ
+countAfter held e a =
+    cond (eqb (e .tag) pointsTag) (effectiveIn (held .points) (puts (pointsOf held) e (a .points))) (a .kept .effective)
+
 -- an entry's bytes put into the area of its kind
 abbrev pub putIn : Held → Entry → Areas → Areas
 putIn held e a =
     areasOf (puts (pointsOf held) e (a .points)) (puts columnsOf e (a .columns)) (puts (integersOf held) e (a .integers))
-    (puts (flagsOf held) e (a .flags)) (a .journal) (a .kept) (a .firsts)
+    (puts (flagsOf held) e (a .flags)) (a .journal) (record { used = a .kept .used; effective = countAfter held e a }) (a .firsts)
 
 -- the journal's entries, oldest first, and the areas with other entries in it ("bytes beyond the used length are 00")
 abbrev pub entriesOf : Held → Areas → List Entry
@@ -95,7 +102,8 @@ entriesOf held a = entriesIn held 0 (take (a .kept .used) (a .journal))
 
 abbrev pub withEntries : List Entry → Areas → Areas
 withEntries es a =
-    areasOf (a .points) (a .columns) (a .integers) (a .flags) (areaOf (length (a .journal)) es) (record { used = length (encodes es) }) (a .firsts)
+    areasOf (a .points) (a .columns) (a .integers) (a .flags) (areaOf (length (a .journal)) es)
+    (record { used = length (encodes es); effective = a .kept .effective }) (a .firsts)
 
 -- an accepted write of a kind's run: "one entry" with "the old bytes of what was named" is added, the new bytes are put in
 abbrev pub oldEntry : Held → ℕ → ℕ → ℕ → Areas → Entry

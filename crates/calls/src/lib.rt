@@ -13,9 +13,10 @@ pub struct Settings {
     pub fitted: u8,
 }
 
-// What is handed on from call to call.
+// What is handed on from call to call: the journal's used length, and the number of effective points (document 02, b).
 pub struct Kept {
     pub used: usize,
+    pub effective: usize,
 }
 
 // That an earlier refusal left the frame untested, or what the sum test said.

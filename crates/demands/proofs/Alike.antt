@@ -17,12 +17,12 @@ use Rattle.table.specs.declared.Action.{Action}
 use Rattle.table.specs.declared.Action.the-variants.{SayBack, CountPoints, ListPoints, ReadRun, AxisStatus, WritePoints, ClearRun, ChangeRun, ShowFlags, SetFlag}
 use Rattle.table.specs.declared.Message.{Message}
 use Rattle.table.specs.declared.Named.{Named}
-use Rattle.table.specs.Table.{restIn}
+use Rattle.table.specs.Table.{messageOf, restIn}
 use Rattle.messages.specs.declared.Asked.{Asked}
 use Rattle.messages.specs.declared.Asked.the-variants.{Refused, Order}
 use Rattle.messages.specs.Asked.{askedOf, judged, numberGiven}
 use Rattle.calls.specs.Calls.{Areas, Sent, Call, callOf, lengthsOf, areaIn, written}
-use Rattle.refusals.specs.Refusals.{axesFit, releaseFits, silentOf}
+use Rattle.refusals.specs.Refusals.{axesFit, releaseFits, miscounted, silentOf}
 use Rattle.refusals.proofs.Rows.{forbidden, areaNumber, lateNumber, earlyNumber, early-rows, silent-is, call-passed, same-told-after}
 use Rattle.queries.specs.Replies.{sameText, axesText}
 use Rattle.orders.specs.Orders.{rest, writes, newBytes, saidBy}
@@ -42,7 +42,7 @@ module _ (c : Call) (release release′ : ℕ) (unchecked unchecked′ : Bool) w
       callOf (c .sent .frame) (c .sent .axes) (record { station = s .station; release = r; unchecked = u; fitted = s .fitted }) (c .sent .reply) (c .areas)
 
   same-said : (does : Action) (m : Message) (start count : ℕ) (area : List ℕ)
-      → saidBy does (held c) (settled release unchecked .sent) m start count area ≡ saidBy does (held c) (settled release′ unchecked′ .sent) m start count area
+      → saidBy does (held c) (settled release unchecked .sent) (c .areas .kept) m start count area ≡ saidBy does (held c) (settled release′ unchecked′ .sent) (c .areas .kept) m start count area
   same-said SayBack m start count area = refl
   same-said CountPoints m start count area = refl
   same-said ListPoints m start count area = refl
@@ -75,6 +75,7 @@ module _ (a : Areas) (h : Sent) (f g : List ℕ) where
     pub forbids : forbidden (h .settings) f ≡ forbidden (h .settings) g
     pub wrong : isWrong (sumSaid (h .settings .release) f) ≡ isWrong (sumSaid (h .settings .release) g)
     pub station : stationPasses (h .settings .release) (h .settings .station) f ≡ stationPasses (h .settings .release) (h .settings .station) g
+    pub names : shaped f ≡ true → messageOf (h .settings .release) f ≡ messageOf (h .settings .release) g
     pub asks : shaped f ≡ true → asked c ≡ asked d
     pub does : shaped f ≡ true → (x : Asked) → asked d ≡ x → (textOf c x ≡ textOf d x) × (areasAfter c x ≡ areasAfter d x)
 
@@ -94,14 +95,24 @@ module _ (a : Areas) (h : Sent) (f g : List ℕ) where
         (areaNumber (lengthsOf a) (a .journal) (a .kept)
         (cond (not (axesFit (h .axes) (h .settings .fitted))) 5 (cond (not (releaseFits (h .settings .release))) 13 (cond (not (k .shape i)) 6 n))))
 
-    late-same : lateNumber (h .settings) f 0 ≡ lateNumber (h .settings) g 0
-    late-same = λ i. cond (k .forbids i) 12 (cond (k .wrong i) 7 (cond (not (k .station i)) 8 0))
+    late-same : shaped f ≡ true → lateNumber (h .settings) f (a .points) (a .kept) 0 ≡ lateNumber (h .settings) g (a .points) (a .kept) 0
+    late-same s =
+        λ i.
+        cond (k .forbids i) 12
+        (cond (k .wrong i) 7 (cond (not (k .station i)) 8 (cond (miscounted (k .names s i) (a .points) (a .kept .effective)) 11 0)))
+
+    -- a frame that isn't shaped is refused before
+    behind-same : (b : Bool) → shaped f ≡ b
+        → earlyNumber (length (h .reply)) f (h .axes) (h .settings) (lengthsOf a) (a .journal) (a .kept) (lateNumber (h .settings) f (a .points) (a .kept) 0)
+        ≡ earlyNumber (length (h .reply)) f (h .axes) (h .settings) (lengthsOf a) (a .journal) (a .kept) (lateNumber (h .settings) g (a .points) (a .kept) 0)
+    behind-same true s = ap (earlyNumber (length (h .reply)) f (h .axes) (h .settings) (lengthsOf a) (a .journal) (a .kept)) (late-same s)
+    behind-same false s = rw s
 
     silent-same : silentOf c ≡ silentOf d
     silent-same =
         silent-is c
-        ∙ ap (earlyNumber (length (h .reply)) f (h .axes) (h .settings) (lengthsOf a) (a .journal) (a .kept)) late-same
-        ∙ early-same (lateNumber (h .settings) g 0)
+        ∙ behind-same (shaped f) refl
+        ∙ early-same (lateNumber (h .settings) g (a .points) (a .kept) 0)
         ∙ sym (silent-is d)
 
     -- all but what is told of the sum
@@ -156,7 +167,7 @@ same-shape x y x′ y′ said said′ sc sc′ two two′ l t = go (ltb (length 
 -- what an order says, where what follows the fields is the same, or where its number is and it isn't a 200H's
 said-alike : (a : Areas) (h : Sent) (f g : List ℕ) (does : Action) (m : Message) (start count : ℕ) (area : List ℕ)
     → numberOf (rest (handed a h f .sent) m) ≡ numberOf (rest (handed a h g .sent) m) → (does ≡ SayBack → rest (handed a h f .sent) m ≡ rest (handed a h g .sent) m)
-    → saidBy does (held (handed a h f)) (handed a h f .sent) m start count area ≡ saidBy does (held (handed a h g)) (handed a h g .sent) m start count area
+    → saidBy does (held (handed a h f)) (handed a h f .sent) (a .kept) m start count area ≡ saidBy does (held (handed a h g)) (handed a h g .sent) (a .kept) m start count area
 said-alike a h f g SayBack m start count area n r = ap (sameText m) (r refl)
 said-alike a h f g CountPoints m start count area n r = refl
 said-alike a h f g ListPoints m start count area n r = refl
@@ -193,14 +204,16 @@ pub fields-alike : (a : Areas) (h : Sent) (f g : List ℕ) → shaped f ≡ shap
     → Alike a h f g
 unfolding askedOf
 fields-alike a h f g shape forbids wrong ours same-id same-content =
+    let same-name : shaped f ≡ true → messageOf (h .settings .release) f ≡ messageOf (h .settings .release) g =
+    λ s. message-of (h .settings .release) f (messageIn g) (same-id s) ∙ sym (message-of (h .settings .release) g (messageIn g) refl) in
     record {
       shape = shape;
       forbids = forbids;
       wrong = wrong;
       station = ours;
+      names = same-name;
       asks = λ s.
-          ap₂ (λ (n : Named) (t : List ℕ). judged (heldIn (lengthsOf a)) (h .settings .fitted) (h .settings .release) n t)
-          (message-of (h .settings .release) f (messageIn g) (same-id s) ∙ sym (message-of (h .settings .release) g (messageIn g) refl))
+          ap₂ (λ (n : Named) (t : List ℕ). judged (heldIn (lengthsOf a)) (h .settings .fitted) (h .settings .release) n t) (same-name s)
           (same-content s);
       does = λ s z _.
           done-alike a h f g z

@@ -24,13 +24,13 @@ use Rattle.table.specs.declared.Named.{Named}
 use Rattle.table.specs.declared.Named.the-variants.{Known}
 use Rattle.messages.specs.declared.Asked.{Asked}
 use Rattle.messages.specs.declared.Asked.the-variants.{Order}
-use Rattle.table.specs.Table.{row, fieldsOf, programIn, startIn, countIn, anyBytes}
+use Rattle.table.specs.Table.{row, messageOf, fieldsOf, programIn, startIn, countIn, anyBytes}
 use Rattle.messages.specs.Asked.{askedOf, judged, numberGiven}
 use Rattle.messages.proofs.Judged.{Right, told, ordered}
 use Rattle.messages.proofs.Capitals as capital
 use Rattle.kinds.specs.Kinds.{kindOf, heldIn, holds}
 use Rattle.calls.specs.Calls.{Areas, Sent, Call, Outcome, callOf, lengthsOf, areaIn}
-use Rattle.refusals.specs.Refusals.{silentOf, toldOf}
+use Rattle.refusals.specs.Refusals.{countFits, miscounted, silentOf, toldOf}
 use Rattle.refusals.proofs.Rows.{AreasPass, forbidden, silent-is, past-silent}
 use Rattle.orders.specs.Orders.{saidBy}
 use Rattle.link.specs.Answer.{held, asked, textOf, areasAfter, answerOf}
@@ -101,11 +101,12 @@ module _ (a : Areas) (h : Sent) (frame : List ℕ) where
 
   -- a command of its station passes every test before a reply
   pub heard-there : (checked : Bool) (asks : List ℕ) → Host h → allowed h checked ≡ true → Open a
+      → miscounted (messageOf (h .settings .release) frame) (a .points) (a .kept .effective) ≡ false
       → Heard (h .settings .release) (h .settings .station) checked asks frame → silentOf sending ≡ 0
-  heard-there checked asks o g p d =
+  heard-there checked asks o g p n d =
       let s = sum-passes checked g (d .has-sum) in
       silent-is sending
-      ∙ past-silent (length (h .reply)) frame (h .axes) (h .settings) (lengthsOf a) (a .journal) (a .kept)
+      ∙ past-silent (length (h .reply)) frame (h .axes) (h .settings) (lengthsOf a) (a .journal) (a .kept) (a .points)
       (record {
         early =
             record {
@@ -118,6 +119,7 @@ module _ (a : Areas) (h : Sent) (frame : List ℕ) where
         allowed = s .0;
         sum = s .1;
         station = d .has-station;
+        count = n;
       })
       0
 
@@ -137,23 +139,24 @@ pub record TakenAs (q : Message) (a : Areas) (h : Sent) (b : Bool) (asks : List 
   pub order : asked (asking a h b asks) ≡ orderOf q (drop 3 asks)
   pub accepts : answerOf (asking a h b asks) .number ≡ 0
 
-pub taken-as : (a : Areas) (asks : List ℕ) (q : Message) → Open a → 3 ≤ length asks → length asks ≤ 1016 → testFits asks ≡ true
+pub taken-as : (a : Areas) (asks : List ℕ) (q : Message) → Open a → countFits (q .does) (a .points) (a .kept .effective) ≡ true → 3 ≤ length asks → length asks ≤ 1016 → testFits asks ≡ true
     → Names (take 3 asks) q → ((fitted release : ℕ) → Right (heldIn (lengthsOf a)) fitted release q (drop 3 asks)) → (h : Sent) → Host h → (b : Bool)
     → allowed h b ≡ true → TakenAs q a h b asks
-taken-as a asks q p least most fits e r h o b g =
+taken-as a asks q p n least most fits e r h o b g =
     let frame = commandOf b (h .settings .station) asks in
     let d = heard (h .settings .release) b (h .settings .station) asks (o .station-byte) least most fits in
-    let z = heard-there a h frame b asks o g p d in
+    let m : messageOf (h .settings .release) frame ≡ Known q = message-of (h .settings .release) frame (take 3 asks) (d .message) ∙ e (h .settings .release) in
+    let z = heard-there a h frame b asks o g p (ap (λ (x : Named). miscounted x (a .points) (a .kept .effective)) m ∙ ap not n) d in
     let w = asked-there a h frame asks q d e (r (h .settings .fitted) (h .settings .release)) in
     record { is-heard = d; again = z; order = w; accepts = ap (λ (x : Outcome). x .number) (heard-answer (asking a h b asks) z) ∙ ap numberGiven w }
 
 -- and it says what the order does
-pub says : (a : Areas) (asks said : List ℕ) (q : Message) → Open a → 3 ≤ length asks → length asks ≤ 1016 → testFits asks ≡ true
+pub says : (a : Areas) (asks said : List ℕ) (q : Message) → Open a → countFits (q .does) (a .points) (a .kept .effective) ≡ true → 3 ≤ length asks → length asks ≤ 1016 → testFits asks ≡ true
     → Names (take 3 asks) q → ((fitted release : ℕ) → Right (heldIn (lengthsOf a)) fitted release q (drop 3 asks))
-    → ((h : Sent) (frame : List ℕ) → saidBy (q .does) (heldIn (lengthsOf a)) (sending a h frame .sent) q (startIn q (drop 3 asks)) (countIn q (drop 3 asks)) (areaIn (q .tag) a) ≡ said)
+    → ((h : Sent) (frame : List ℕ) → saidBy (q .does) (heldIn (lengthsOf a)) (sending a h frame .sent) (a .kept) q (startIn q (drop 3 asks)) (countIn q (drop 3 asks)) (areaIn (q .tag) a) ≡ said)
     → Says ours a asks said
-says a asks said q p least most fits e r t =
-    let k = taken-as a asks q p least most fits e r in
+says a asks said q p n least most fits e r t =
+    let k = taken-as a asks q p n least most fits e r in
     record {
       number = λ h o b g. k h o b g .accepts;
       text = λ h o b g.

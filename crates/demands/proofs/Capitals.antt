@@ -205,9 +205,9 @@ module _ (c : Call) (m : Message) (start count : ℕ) where
   abbrev id : InCapitals (idOf m)
   id = of-digits 3 (m .id)
 
-  of-said : (does : Action) → (does ≡ SayBack → ⊥) → InCapitals (saidBy does (held c) (c .sent) m start count area)
+  of-said : (does : Action) → (does ≡ SayBack → ⊥) → InCapitals (saidBy does (held c) (c .sent) (c .areas .kept) m start count area)
   of-said SayBack n = absurd (n refl)
-  of-said CountPoints n = let k = effectiveIn (held c .points) area in joins (idOf m) (digitsOf 3 k) id (of-digits 3 k)
+  of-said CountPoints n = let k = c .areas .kept .effective in joins (idOf m) (digitsOf 3 k) id (of-digits 3 k)
   of-said ListPoints n =
       let ls = listed 1011 count start (drop (placeOf (pointsOf (held c)) start) area) in
       joins (idOf m) (digitsOf 3 (length ls) ++ joined ls) id
@@ -242,7 +242,7 @@ of-text : (c : Call) → (messageIn (c .sent .frame) ≡ text "200" → ⊥) →
 unfolding capital
 of-text c other z (Refused k) q = of-error (c .sent .settings .station) k
 of-text c other z (Order m start count) q =
-    of-reply normal (c .sent .settings .station) (saidBy (m .does) (held c) (c .sent) m start count (areaIn (m .tag) (c .areas))) refl
+    of-reply normal (c .sent .settings .station) (saidBy (m .does) (held c) (c .sent) (c .areas .kept) m start count (areaIn (m .tag) (c .areas))) refl
     (of-said c m start count (m .does) (not-said-back c other (omega (arith, shaped-long (c .sent .frame) (call-passed c z .early .shape))) m start count q))
 
 pub replies-in-capitals : RepliesInCapitals ours

@@ -96,13 +96,13 @@ module _ (id id′ program start count tag : ℕ) (repeats : Bool) where
 
     -- what a query of any run says
     pub said-run : (number many : ℕ) (x : Sent) (frame : List ℕ)
-        → saidBy ReadRun (heldIn (lengthsOf a)) (sentOf frame (x .axes) (x .settings) (x .reply)) read number many (areaIn tag a)
+        → saidBy ReadRun (heldIn (lengthsOf a)) (sentOf frame (x .axes) (x .settings) (x .reply)) (a .kept) read number many (areaIn tag a)
         ≡ headOf read number many ++ digitsIn (runOf k number many (areaIn tag a))
     said-run number many x frame = ap (λ (y : Held). runText read (kindOf y tag) number many (areaIn tag a)) (t .is-held)
 
     -- a query of the same run says the ID and the very content that was sent, in capitals
     pub said-back : 1 ≤ count → untouched tag (startOf change s) (countOf change s) later ≡ true → (x : Sent) (frame : List ℕ)
-        → saidBy ReadRun (heldIn (lengthsOf a)) (sentOf frame (x .axes) (x .settings) (x .reply)) read (startIn read (capitals (take (fieldsOf change) (content s))))
+        → saidBy ReadRun (heldIn (lengthsOf a)) (sentOf frame (x .axes) (x .settings) (x .reply)) (a .kept) read (startIn read (capitals (take (fieldsOf change) (content s))))
         (countIn read (capitals (take (fieldsOf change) (content s))))
         (areaIn tag a)
         ≡ digitsOf 3 id′ ++ capitals (content s)
@@ -144,7 +144,7 @@ module _ {name : List ℕ} {id tag : ℕ} (q : Query name id tag) where
   asks-it : (a : Areas) (fields said : List ℕ) → Open a → length fields ≤ 7
       → ((fitted release : ℕ) → Right (heldIn (lengthsOf a)) fitted release (row id 2 3 2 tag Nothing ReadRun true) fields)
       → ((h : Sent) (frame : List ℕ)
-      → saidBy ReadRun (heldIn (lengthsOf a)) (sentOf frame (h .axes) (h .settings) (h .reply)) (row id 2 3 2 tag Nothing ReadRun true)
+      → saidBy ReadRun (heldIn (lengthsOf a)) (sentOf frame (h .axes) (h .settings) (h .reply)) (a .kept) (row id 2 3 2 tag Nothing ReadRun true)
       (startIn (row id 2 3 2 tag Nothing ReadRun true) fields)
       (countIn (row id 2 3 2 tag Nothing ReadRun true) fields)
       (areaIn tag a)
@@ -154,10 +154,10 @@ module _ {name : List ℕ} {id tag : ℕ} (q : Query name id tag) where
       let m = row id 2 3 2 tag Nothing ReadRun true in
       let d : drop 3 (name ++ fields) ≡ fields = drop-at name fields 3 three in
       let n = length-append name fields in
-      says a (name ++ fields) said m o (omega (arith, n, three)) (omega (arith, n, three, l)) (rw (take-at name fields 3 three, q .other)) (λ release. ap (messageNamed release) (take-at name fields 3 three) ∙ q .is-named release)
+      says a (name ++ fields) said m o refl (omega (arith, n, three)) (omega (arith, n, three, l)) (rw (take-at name fields 3 three, q .other)) (λ release. ap (messageNamed release) (take-at name fields 3 three) ∙ q .is-named release)
       (λ fitted release. subst (Right (heldIn (lengthsOf a)) fitted release m) (sym d) (r fitted release))
       (λ h frame.
-      ap (λ (x : List ℕ). saidBy ReadRun (heldIn (lengthsOf a)) (sentOf frame (h .axes) (h .settings) (h .reply)) m (startIn m x) (countIn m x) (areaIn tag a)) d ∙ t h frame)
+      ap (λ (x : List ℕ). saidBy ReadRun (heldIn (lengthsOf a)) (sentOf frame (h .axes) (h .settings) (h .reply)) (a .kept) m (startIn m x) (countIn m x) (areaIn tag a)) d ∙ t h frame)
 
   -- of any numbers that are held it says two digits for each byte
   pub reads-any : (a : Areas) → Open a → RunTold ours a name tag

@@ -9,6 +9,7 @@ use Rattle.demands.proofs.TestCalls.{test-calls}
 use Rattle.demands.proofs.Releases.{releases, same-answer}
 use Rattle.demands.proofs.SwitchedOff.{switched-off, contract-as-before}
 use Rattle.demands.proofs.OneByte.{one-byte}
+use Rattle.demands.proofs.KeptCount.{kept-count}
 use Rattle.demands.proofs.LookFirst.{look-first, contracts-as-one, cabinet-as-one, cabinet-looks}
 
 pub demands : Demands
@@ -41,6 +42,7 @@ demands =
             contracts-as-one = contracts-as-one;
             cabinet-as-one = cabinet-as-one;
             cabinet-looks = cabinet-looks;
+            kept-count = kept-count;
           };
       demand3 = every-history;
     }

@@ -2,7 +2,7 @@
 use Prim.Native.Nat.{ℕ, zero, suc, _+_, _-_, _≤_}
 use mathlib.Core.Path.{_≡_, refl, sym, ap, ap₂, _∙_, subst}
 use mathlib.Core.Logic.{_↔_}
-use mathlib.Core.Bool.{Bool, true, false, cond, _&&_}
+use mathlib.Core.Bool.{Bool, true, false, cond, _&&_, true≢false}
 use mathlib.Core.List.{List, [], _∷_, _++_, append-assoc}
 use native.Mathlib.Omega.{arith}
 use lib.Dec.{eqb}
@@ -25,15 +25,17 @@ use Rattle.table.specs.Table.{restIn}
 use Rattle.messages.specs.Asked.{askedOf}
 use Rattle.messages.proofs.Judged.{told}
 use Rattle.calls.specs.Calls.{Areas, Sent, Outcome, fresh, areaIn, putIn, oldEntry, withEntries, steppedBack}
-use Rattle.calls.proofs.Tagged.{each-long}
+use Rattle.calls.proofs.Tagged.{each-long, counted-after}
+use Rattle.slots.proofs.Counted.{effective-zero}
+use Rattle.refusals.proofs.Tested.{true-fits}
 use Rattle.orders.specs.Orders.{newBytes}
 use Rattle.link.specs.Answer.{asked, answerOf}
 use Rattle.back.proofs.Backing.{accepted-back}
 use Rattle.back.specs.Back.{backOf}
 use Rattle.demands.specs.Refused.{asksWrite}
 use Rattle.demands.specs.History.{messageBy, ours, Event, frame, stepBack, callOn, after, acceptedWrite, butLast, standing, Past, past, alone, allAccepted, entries, runSaid, entrySaid, entryBy, stored, account, entered, Holds, EveryHistory}
-use Rattle.demands.proofs.Refused.{one-number, changes-nothing, query-changes-nothing}
-use Rattle.demands.proofs.Shaped.{Bounds, Shape, takes, numberOn, held-is, journal-long, entries-held, same-entries, takes-is, back-is}
+use Rattle.demands.proofs.Refused.{one-number, by-eleven, changes-nothing, query-changes-nothing}
+use Rattle.demands.proofs.Shaped.{Bounds, Shape, takes, numberOn, held-is, journal-long, entries-held, same-entries, count-true, takes-is, back-is}
 use Rattle.demands.proofs.Wrote.{Writes, ordered, entryOf, oldBy, writtenBy, wrote, same-put, undone, shaped}
 
 -- a frame that is no accepted write changes nothing
@@ -100,6 +102,7 @@ module _ {held : Held} {size : ℕ} (b : Bounds held size) where
         firsts = refl;
         holds = record { bytes = ap (λ (m : ℕ). replicate m 0) z; used = refl };
         good = tt;
+        counted = sym (effective-zero (held .points));
         fits = omega arith;
       }
 
@@ -396,6 +399,7 @@ module _ {held : Held} {size : ℕ} (b : Bounds held size) where
             firsts = v .shape .firsts;
             holds = record { bytes = ap (λ (m : ℕ). areaOf m (others es)) (journal-long b (v .shape)); used = refl };
             good = good-others held es (v .shape .good);
+            counted = counted-after held (lastEntry es) now (v .shape .counted);
             fits = fewer;
           }
 
@@ -445,10 +449,13 @@ module _ {held : Held} {size : ℕ} (b : Bounds held size) where
           let none : entries (p .areas) ≡ [] = same-entries b (v .shape) ∙ left-none (v .shape) (zero-used (v .shape) k) in
           ap entries (back-keeps (v .shape) k) ∙ none ∙ ap others (sym none)
 
+  back-not-eleven : (b : Bool) → _≡_ {A = ℕ} (cond b 9 0) 11 → ⊥
+  back-not-eleven true e = omega (arith, e)
+  back-not-eleven false e = omega (arith, e)
+
   pub holds-always : (p : Past) → Inv p → Holds ours held size p
   holds-always p v =
       let es = sym (same-entries b (v .shape)) in
-      let u : p .areas .kept .used ≡ length (encodes (entries (p .areas))) = v .shape .holds .used ∙ ap (λ (x : List Entry). length (encodes x)) es in
       record {
         things = v .things;
         whole-writes = λ t.
@@ -461,7 +468,13 @@ module _ {held : Held} {size : ℕ} (b : Bounds held size) where
             ∙ v .newest-are
             ∙ ap (λ (x : List Entry). v .dropped ++ x) es;
         journal = v .shape .holds .bytes ∙ ap (areaOf size) es;
-        kept = λ i. record { used = u i };
+        used = v .shape .holds .used ∙ ap (λ (x : List Entry). length (encodes x)) es;
+        counted = count-true b (v .shape);
+        never-eleven = λ s e.
+            true≢false
+            (sym (by-eleven (callOn (p .areas) s) (sym (one-number .frame (callOn (p .areas) s)) ∙ e))
+            ∙ true-fits (messageBy s) (p .areas .points) (p .areas .kept .effective) (count-true b (v .shape)));
+        never-back = λ e. back-not-eleven (eqb (p .areas .kept .used) 0) (sym (back-number (v .shape)) ∙ e);
         firsts = v .shape .firsts;
         numbers = λ s. one-number .frame (callOn (p .areas) s);
         adds = λ s e. same-entries b (here p v s e .next) ∙ ap₂ (added size) es (sym (entry-is (order p v s e) (p .areas)));

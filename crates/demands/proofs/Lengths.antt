@@ -84,7 +84,7 @@ module _ (c : Call) (m : Message) (start count : ℕ) (z : silentOf c ≡ 0) (e 
   run-short t n l e = let s = head-short m start count (handling.content order .narrow) in omega (arith, e, l, s)
 
   -- what is said after the station, by what the message has the board do
-  said-short : (a : Action) → m .does ≡ a → Short (saidBy a (held c) (c .sent) m start count area)
+  said-short : (a : Action) → m .does ≡ a → Short (saidBy a (held c) (c .sent) (c .areas .kept) m start count area)
   said-short SayBack d = omega (arith, handling.same-needs order d refl)
   said-short CountPoints d = omega arith
   said-short ListPoints d = list-short m start count _
@@ -112,7 +112,7 @@ module _ (c : Call) (m : Message) (start count : ℕ) (z : silentOf c ≡ 0) (e 
 asked-short : (c : Call) (a : Asked) → silentOf c ≡ 0 → asked c ≡ a → length (textOf c a) ≤ 1024
 asked-short c (Refused k) z e = rw (length-reply error (c .sent .settings .station) (threeOf k)) (omega arith)
 asked-short c (Order m start count) z e =
-    rw (length-reply normal (c .sent .settings .station) (saidBy (m .does) (held c) (c .sent) m start count (areaIn (m .tag) (c .areas))))
+    rw (length-reply normal (c .sent .settings .station) (saidBy (m .does) (held c) (c .sent) (c .areas .kept) m start count (areaIn (m .tag) (c .areas))))
     (omega (arith, said-short c m start count z e (m .does) refl))
 
 pub reply-fits : ReplyFits

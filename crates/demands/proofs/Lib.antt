@@ -27,4 +27,5 @@ pub mod SwitchedOff
 pub mod Changed
 pub mod OneByte
 pub mod LookFirst
+pub mod KeptCount
 pub mod Demands

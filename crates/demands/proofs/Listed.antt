@@ -20,17 +20,18 @@ use Rattle.table.specs.declared.Follows.the-variants.{Nothing, Points}
 use Rattle.table.specs.declared.Action.{Action}
 use Rattle.table.specs.declared.Action.the-variants.{ListPoints, WritePoints, ClearRun}
 use Rattle.table.specs.declared.Message.{Message}
+use Rattle.table.specs.declared.Named.the-variants.{Known}
 use Rattle.table.specs.Table.{row, startIn, countIn, patternsFit}
 use Rattle.messages.proofs.Judged.{Right}
 use Rattle.messages.proofs.Capitals as capital
 use Rattle.points.proofs.Parts.{all-drop}
 use Rattle.listing.specs.Listing.{listed}
 use Rattle.calls.specs.Calls.{Areas, Sent, lengthsOf}
-use Rattle.refusals.proofs.Tested.{sound}
+use Rattle.refusals.proofs.Tested.{sound, true-fits}
 use Rattle.orders.specs.Orders.{writes, newBytes}
 use Rattle.orders.proofs.Judging.{writable}
-use Rattle.demands.specs.History.{ours}
-use Rattle.demands.specs.Reading.{content, startOf, countOf, restOf, untouched, Says, sentBy, fitting, lists, listRoom, asksPoints, PointsRead, PointsGone, effectiveOf, slotsFrom, Tells}
+use Rattle.demands.specs.History.{ours, effectiveOf, CountTrue}
+use Rattle.demands.specs.Reading.{content, startOf, countOf, restOf, untouched, Says, sentBy, fitting, lists, listRoom, asksPoints, PointsRead, PointsGone, slotsFrom, Tells}
 use Rattle.demands.proofs.Commands.{counting, listing, writing, clearing, named}
 use Rattle.demands.proofs.Asking.{Open, says, same-start, same-count, query-right, start-said, count-said, asks-right}
 use Rattle.demands.proofs.Codes.{of-columns, of-integers, reads-any}
@@ -43,20 +44,20 @@ list-said : (a : Areas) (s : List ℕ) (ls : List (List ℕ)) → Open a → ((f
     → listed 1011 (countIn listing s) (startIn listing s) (drop ((startIn listing s - 1) * 40) (a .points)) ≡ ls → Says ours a (text "209" ++ s) (lists ls)
 unfolding byteOf
 list-said a s ls o r h e =
-    says a (text "209" ++ s) (lists ls) listing o (omega arith) (omega arith) refl (named .1) r (λ x frame. ap lists e)
+    says a (text "209" ++ s) (lists ls) listing o refl (omega arith) (omega arith) refl (named .1) r (λ x frame. ap lists e)
 
 -- what is told of all that is held
 module _ (a : Areas) (o : Open a) where
   abbrev h : Held
   h = heldIn (lengthsOf a)
 
-  -- a 208H has no content to test, and says how many slots are effective
-  counted : Says ours a (text "208") (text "208" ++ digitsOf 3 (effectiveOf a))
+  -- a 208H has no content to test, and says how many slots are effective, where the count is true
+  counted : CountTrue a → Says ours a (text "208") (text "208" ++ digitsOf 3 (effectiveOf a))
   unfolding byteOf
-  counted =
-      says a (text "208") (text "208" ++ digitsOf 3 (effectiveOf a)) counting o (omega arith) (omega arith) refl (named .0)
+  counted t =
+      says a (text "208") (text "208" ++ digitsOf 3 (effectiveOf a)) counting o (was-not (true-fits (Known counting) (a .points) (a .kept .effective) t)) (omega arith) (omega arith) refl (named .0)
       (λ fitted release. record { digits = refl; long = refl; program = refl; some = refl; held-all = refl; pattern = refl; type = refl })
-      (λ x frame. refl)
+      (λ x frame. ap (λ (n : ℕ). text "208" ++ digitsOf 3 n) t)
 
   -- a 209H of any points lists those of them that are effective
   pub lists-any : (start count : ℕ) → 1 ≤ count → holds (pointsOf h) start count ≡ true

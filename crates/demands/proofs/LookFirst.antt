@@ -23,7 +23,7 @@ use Rattle.messages.proofs.Promised.{judgement}
 use Rattle.messages.proofs.Shapes.{Shape, shaped}
 use Rattle.calls.specs.declared.Told.the-variants.{Untested}
 use Rattle.calls.specs.Calls.{Areas, Call, Outcome, areaIn, written, sumCode}
-use Rattle.refusals.specs.Refusals.{tooShort, areaRows, checkRows, lateRows, checkEarly, checkSilentOf}
+use Rattle.refusals.specs.Refusals.{tooShort, areaRows, checkRows, lateRows, countRows, checkEarly, late, checkSilentOf}
 use Rattle.orders.specs.Orders.{writes}
 use Rattle.orders.proofs.Judging.{not-so}
 use Rattle.link.specs.declared.Checked.{Checked}
@@ -54,10 +54,10 @@ refusal-shown (Order m start count) n = absurd (n refl)
 
 -- none of a check's own rows gives 1, and none of a message's
 not-one : (c : Call) → checkSilentOf c ≡ 1 → ⊥
-unfolding checkSilentOf checkRows areaRows lateRows
+unfolding checkSilentOf checkRows areaRows lateRows countRows
 not-one c =
-    number-given (λ (k : ℕ). k ≡ 1 → ⊥) (checkEarly c ++ lateRows (c .sent .settings) (c .sent .frame)) (λ e. omega (arith, e))
-    (λ e. omega (arith, e), (λ e. omega (arith, e), (λ e. omega (arith, e), (λ e. omega (arith, e), (λ e. omega (arith, e), (λ e. omega (arith, e), (λ e. omega (arith, e), (λ e. omega (arith, e), (λ e. omega (arith, e), (λ e. omega (arith, e), tt))))))))))
+    number-given (λ (k : ℕ). k ≡ 1 → ⊥) (checkEarly c ++ late c) (λ e. omega (arith, e))
+    (λ e. omega (arith, e), (λ e. omega (arith, e), (λ e. omega (arith, e), (λ e. omega (arith, e), (λ e. omega (arith, e), (λ e. omega (arith, e), (λ e. omega (arith, e), (λ e. omega (arith, e), (λ e. omega (arith, e), (λ e. omega (arith, e), (λ e. omega (arith, e), tt)))))))))))
 
 never-one : (c : Call) → shown c .number ≡ 1 → ⊥
 never-one c =
@@ -186,11 +186,11 @@ pub contracts-as-one : ContractsAsOne
 contracts-as-one c r r′ a a′ reply reply′ x y = one-answer answerOf c r r′ a a′ reply reply′ (same-gives c (same-act c) x) y
 
 pub cabinet-as-one : CabinetAsOne
-cabinet-as-one c n n′ l l′ u u′ s s′ a a′ reply reply′ x y =
-    one-cabinet-answer answerOf c n n′ l l′ u u′ s s′ a a′ reply reply′ (same-cabinet c (same-act c) x) y
+cabinet-as-one c n n′ l l′ u u′ v v′ s s′ a a′ reply reply′ x y =
+    one-cabinet-answer answerOf c n n′ l l′ u u′ v v′ s s′ a a′ reply reply′ (same-cabinet c (same-act c) x) y
 
 pub cabinet-looks : CabinetLooks
-cabinet-looks c k told m start count n l u s a reply x y =
+cabinet-looks c k told m start count n l u v s a reply x y =
     let e = without-reply c in
     let of : (f : Shown → ℕ) → f (shownOf (checkOf (replyingIn [] c) .asked)) ≡ f (shown c) = λ f. ap (λ (w : Checked). f (shownOf (w .asked))) e in
     let kn : k ≡ shown c .number = x .number-is ∙ of (λ (w : Shown). w .number) in

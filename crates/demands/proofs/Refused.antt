@@ -1,8 +1,8 @@
 -- Demand 1, from the table and the outcome.
 use Prim.Native.Nat.{ℕ, _≤_, _<_}
 use mathlib.Core.Path.{_≡_, refl, sym, ap, _∙_, subst}
-use mathlib.Core.Bool.{true, false}
-use mathlib.Core.List.{List, [], _∷_}
+use mathlib.Core.Bool.{Bool, true, false, cond}
+use mathlib.Core.List.{List, [], _∷_, _++_}
 use native.Mathlib.Omega.{arith}
 use lib.Dec.{eqb, ltb}
 use lib.ListN.{length, drop}
@@ -25,12 +25,13 @@ use Rattle.messages.proofs.Judged.{asked-from}
 use Rattle.calls.specs.declared.Told.{Told}
 use Rattle.calls.specs.declared.Told.the-variants.{Untested}
 use Rattle.calls.specs.Calls.{Areas, Call, Outcome, lengthsOf, unanswered}
-use Rattle.refusals.specs.Refusals.{axesFit, releaseFits, areaRows, checkRows, lateRows, silent, silentOf, toldOf, backRows, backRefusalOf}
+use Rattle.refusals.specs.Refusals.{axesFit, releaseFits, areaRows, checkRows, lateRows, countRows, early, silent, silentOf, toldOf, refusalOf, backRows, backRefusalOf}
 use Rattle.link.specs.Answer.{held, asked, areasAfter, textOf, answerOf}
-use Rattle.refusals.proofs.Rows.{AreasPass, past-areas, ownNumber, lateNumber, earlyNumber, early-rows, silent-is, told-untested}
+use Rattle.refusals.proofs.Rows.{AreasPass, past-areas, ownNumber, wrongCount, lateNumber, earlyNumber, early-rows, eight-open, eight-given, eight-is, silent-is, refusal-is, told-untested}
 use Rattle.link.proofs.Answering.{silent-answer, frame-number, asked-number, heard-number}
 use Rattle.back.specs.Back.{backOf}
 use Rattle.demands.specs.Refused.{OneNumber, frameNumbers, backNumbers, among, NoOtherNumber, ChangesNothing, OneReply, ErrorsAgree, asksWrite, QueryChangesNothing}
+use Rattle.demands.specs.KeptCount.{toEight}
 
 -- an answer, by whether its frame was heard
 pub answer-either : (c : Call) (P : Outcome → Type 0)
@@ -51,7 +52,7 @@ pub by-six : (c : Call) → ltb (length (c .sent .reply)) 1024 ≡ false → Are
 by-six c reply areas axes release shape =
     let l = lengthsOf (c .areas) in
     let early = early-rows (length (c .sent .reply)) (c .sent .frame) (c .sent .axes) (c .sent .settings) l (c .areas .journal) (c .areas .kept) ∙ six 0 in
-    silent-answer c 6 (sym (silent-is c ∙ six (lateNumber (c .sent .settings) (c .sent .frame) 0))) (λ z. omega (arith, z))
+    silent-answer c 6 (sym (silent-is c ∙ six (lateNumber (c .sent .settings) (c .sent .frame) (c .areas .points) (c .areas .kept) 0))) (λ z. omega (arith, z))
     ∙ ap (λ (t : Told). unanswered t 6 (c .areas)) (told-untested (c .sent .settings .release) (c .sent .frame) (λ z. let n : _≡_ {A = ℕ} 6 0 = sym early ∙ z in omega (arith, n)))
   where
     -- whatever comes behind
@@ -96,12 +97,79 @@ pub number-given : (P : ℕ → Type 0) (rs : List Row) → P 0 → EachNumber P
 number-given P [] z h = z
 number-given P (r ∷ rs) z h = either P (r .holds) (λ _. h .0) (λ _. number-given P rs z (h .1))
 
+-- 11 is given only where the count is wrong, and where no test up to 8 refuses
+eight-other : (c : Call) → toEight c ≡ 11 → ⊥
+unfolding checkRows areaRows lateRows
+eight-other c =
+    number-given (λ (k : ℕ). k ≡ 11 → ⊥) (early c ++ lateRows (c .sent .settings) (c .sent .frame)) (λ e. omega (arith, e)) (
+      λ e. omega (arith, e),
+      (
+        λ e. omega (arith, e),
+        (
+          λ e. omega (arith, e),
+          (
+            λ e. omega (arith, e),
+            (
+              λ e. omega (arith, e),
+              (
+                λ e. omega (arith, e),
+                (
+                  λ e. omega (arith, e),
+                  (λ e. omega (arith, e), (λ e. omega (arith, e), (λ e. omega (arith, e), (λ e. omega (arith, e), tt)))),
+                ),
+              ),
+            ),
+          ),
+        ),
+      ),
+    )
+
+-- what its rows from 101 on give
+abbrev pub askedNumber : Call → ℕ
+askedNumber c = firstOf (askedRows (held c) (c .sent .settings .fitted) (c .sent .settings .release) (messageOf (c .sent .settings .release) (c .sent .frame)) (contentIn (c .sent .frame)))
+
+abbrev pub wrong : Call → Bool
+wrong c = wrongCount (c .sent .settings) (c .sent .frame) (c .areas .points) (c .areas .kept)
+
+module _ (c : Call) where
+  pub past-eight : toEight c ≡ 0 → refusalOf c ≡ cond (wrong c) 11 (askedNumber c)
+  past-eight e =
+      refusal-is c
+      ∙ eight-open (length (c .sent .reply)) (c .sent .frame) (c .sent .axes) (c .sent .settings) (lengthsOf (c .areas)) (c .areas .journal) (c .areas .kept)
+      (sym (eight-is c) ∙ e)
+      _
+
+  pub up-to-eight : (toEight c ≡ 0 → ⊥) → refusalOf c ≡ toEight c
+  up-to-eight n =
+      refusal-is c
+      ∙ eight-given (length (c .sent .reply)) (c .sent .frame) (c .sent .axes) (c .sent .settings) (lengthsOf (c .areas)) (c .areas .journal) (c .areas .kept) _
+      (λ z. n (eight-is c ∙ z))
+      ∙ sym (eight-is c)
+
+  pub by-eleven : refusalOf c ≡ 11 → wrong c ≡ true
+  by-eleven e = go (eqb (toEight c) 0) refl
+    where
+      other : askedNumber c ≡ 11 → ⊥
+      other f =
+          let n =
+          asked-from (held c) (c .sent .settings .fitted) (c .sent .settings .release) (messageOf (c .sent .settings .release) (c .sent .frame)) (contentIn (c .sent .frame))
+          (λ z. omega (arith, z, f)) in
+          omega (arith, n, f)
+
+      by : (w : Bool) → cond w 11 (askedNumber c) ≡ 11 → w ≡ true
+      by true f = refl
+      by false f = absurd (other f)
+
+      go : (b : Bool) → eqb (toEight c) 0 ≡ b → wrong c ≡ true
+      go true q = by (wrong c) (sym (past-eight (eqb-true _ _ q)) ∙ e)
+      go false q = absurd (eight-other c (sym (up-to-eight (eqb-false _ _ q)) ∙ e))
+
 -- the numbers of a frame: to 13 without a reply, and from 101 on
 pub silent-low : (c : Call) → silentOf c ≤ 13
-unfolding silentOf checkRows areaRows lateRows
+unfolding silentOf checkRows areaRows lateRows countRows
 silent-low c =
     number-given (λ (k : ℕ). k ≤ 13) (silent c) (omega arith)
-    (omega arith, (omega arith, (omega arith, (omega arith, (omega arith, (omega arith, (omega arith, (omega arith, (omega arith, (omega arith, (omega arith, tt)))))))))))
+    (omega arith, (omega arith, (omega arith, (omega arith, (omega arith, (omega arith, (omega arith, (omega arith, (omega arith, (omega arith, (omega arith, (omega arith, tt))))))))))))
 
 pub asked-high : (c : Call) → (numberGiven (asked c) ≡ 0 → ⊥) → 101 ≤ numberGiven (asked c)
 asked-high c n =
@@ -113,8 +181,8 @@ abbrev Listed : List ℕ → ℕ → Type 0
 Listed ns n = among n ns ≡ true
 
 silent-listed : (c : Call) → Listed frameNumbers (silentOf c)
-unfolding silentOf checkRows areaRows lateRows
-silent-listed c = number-given (Listed frameNumbers) (silent c) refl (refl, (refl, (refl, (refl, (refl, (refl, (refl, (refl, (refl, (refl, (refl, tt)))))))))))
+unfolding silentOf checkRows areaRows lateRows countRows
+silent-listed c = number-given (Listed frameNumbers) (silent c) refl (refl, (refl, (refl, (refl, (refl, (refl, (refl, (refl, (refl, (refl, (refl, (refl, tt))))))))))))
 
 asked-listed : (held : Held) (fitted release : ℕ) (n : Named) (content : List ℕ) → Listed frameNumbers (firstOf (askedRows held fitted release n content))
 unfolding askedRows
@@ -124,7 +192,7 @@ asked-listed held fitted release (Known m) content =
 
 back-listed : (a : Areas) → Listed backNumbers (backRefusalOf a)
 unfolding backRefusalOf backRows areaRows
-back-listed a = number-given (Listed backNumbers) (backRows (lengthsOf a) (a .journal) (a .kept)) refl (refl, (refl, (refl, (refl, (refl, tt)))))
+back-listed a = number-given (Listed backNumbers) (backRows (lengthsOf a) (a .points) (a .journal) (a .kept)) refl (refl, (refl, (refl, (refl, (refl, (refl, tt))))))
 
 pub no-other-number : NoOtherNumber
 no-other-number =

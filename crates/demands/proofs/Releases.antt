@@ -36,11 +36,12 @@ use Rattle.messages.proofs.Judged.{Right, told, ordered, as-admitted}
 use Rattle.messages.proofs.Capitals.{same-rest, same-judged}
 use Rattle.calls.specs.declared.Told.the-variants.{Said}
 use Rattle.calls.specs.Calls.{Areas, Sent, Call, Outcome, lengthsOf}
-use Rattle.refusals.specs.Refusals.{releaseFits, silentOf, toldOf}
+use Rattle.refusals.specs.Refusals.{releaseFits, miscounted, silentOf, toldOf}
 use Rattle.refusals.proofs.Rows.{silent-is, past-silent, call-passed, heard-told}
 use Rattle.refusals.proofs.Tested.{shaped-long}
 use Rattle.orders.specs.Orders.{rest, newBytes}
 use Rattle.link.specs.Answer.{held, asked, textOf, areasAfter, answerOf}
+use Rattle.link.proofs.Carrying.{ordered-message}
 use Rattle.link.proofs.Answering.{heard-answer, accepted}
 use Rattle.demands.specs.History.{ours}
 use Rattle.demands.specs.Reading.{before, frameWith, commandOf, asking}
@@ -150,6 +151,7 @@ module _ (c : Call) (n : answerOf (under 1 c) .number ≡ 0) where
       let p = call-passed one (accepted one n .heard) in
       silent-is two
       ∙ past-silent (length (c .sent .reply)) frame (c .sent .axes) (two .sent .settings) (lengthsOf (c .areas)) (c .areas .journal) (c .areas .kept)
+      (c .areas .points)
       (record {
         early =
             record {
@@ -162,8 +164,15 @@ module _ (c : Call) (n : answerOf (under 1 c) .number ≡ 0) where
         allowed = ap (λ (s : Sum). isOff s && not (c .sent .settings .unchecked)) (said-more frame (p .sum)) ∙ p .allowed;
         sum = ap isWrong (said-more frame (p .sum)) ∙ p .sum;
         station = says-more (stationIn frame) (c .sent .settings .station) (p .station);
+        count = ap (λ (x : Named). miscounted x (c .areas .points) (c .areas .kept .effective)) (message-more frame own-message ∙ sym own-message) ∙ p .count;
       })
       0
+    where
+      own-message : messageOf 1 frame ≡ Known (accepted one n .message)
+      own-message =
+          let a = accepted one n in
+          ordered-message one (record { message = a .message; start = a .start; count = a .count; held = held one })
+          (record { silent-0 = a .heard; held-is = refl; order = a .order })
 
   same-order : asked two ≡ asked one
   unfolding askedOf
@@ -352,19 +361,27 @@ module _ (a : Areas) (h : Sent) (e : h .settings .release ≡ 2) (checked : Bool
     id-capitals : messageIn as-capitals ≡ capitals (take 3 said)
     id-capitals = is-message X Y (capitals said) (sc-of (capitals said)) (long-sc (capitals said)) long-capitals ∙ take-capitals 3 said
 
+    -- both name the same
+    abbrev own-name : Named
+    own-name = messageNamed (h .settings .release) (take 3 said)
+
+    named-as-is : messageOf (h .settings .release) as-is ≡ own-name
+    named-as-is = message-of (h .settings .release) as-is (take 3 said) (is-message X Y said (sc-of said) (long-sc said) long)
+
+    named-capitals : messageOf (h .settings .release) as-capitals ≡ own-name
+    named-capitals =
+        message-of (h .settings .release) as-capitals (capitals (take 3 said)) id-capitals
+        ∙ at-two e (λ (k : ℕ). messageNamed k (capitals (take 3 said)) ≡ messageNamed k (take 3 said)) (same-named (take 3 said))
+
     same-asked : asked (handed a h as-is) ≡ asked (handed a h as-capitals)
     unfolding askedOf
     same-asked =
         let r = h .settings .release in
         let H = heldIn (lengthsOf a) in
         let F = h .settings .fitted in
-        let n = messageNamed r (take 3 said) in
-        let id : messageOf r as-capitals ≡ n =
-        message-of r as-capitals (capitals (take 3 said)) id-capitals
-        ∙ at-two e (λ (k : ℕ). messageNamed k (capitals (take 3 said)) ≡ messageNamed k (take 3 said)) (same-named (take 3 said)) in
-        ap₂ (λ (k : Named) (t : List ℕ). judged H F r k t) (message-of r as-is (take 3 said) (is-message X Y said (sc-of said) (long-sc said) long)) body
-        ∙ sym (at-two e (λ (k : ℕ). judged H F k n (capitals (drop 3 said)) ≡ judged H F k n (drop 3 said)) (same-judged H F n (drop 3 said)))
-        ∙ sym (ap₂ (λ (k : Named) (t : List ℕ). judged H F r k t) id body-capitals)
+        ap₂ (λ (k : Named) (t : List ℕ). judged H F r k t) named-as-is body
+        ∙ sym (at-two e (λ (k : ℕ). judged H F k own-name (capitals (drop 3 said)) ≡ judged H F k own-name (drop 3 said)) (same-judged H F own-name (drop 3 said)))
+        ∙ sym (ap₂ (λ (k : Named) (t : List ℕ). judged H F r k t) named-capitals body-capitals)
 
     rest-capitals : (m : Message) → rest (handed a h as-capitals .sent) m ≡ capitals (rest (handed a h as-is .sent) m)
     rest-capitals m = ap (restIn m) body-capitals ∙ same-rest m (drop 3 said) ∙ ap (λ (t : List ℕ). capitals (restIn m t)) (sym body)
@@ -388,6 +405,7 @@ module _ (a : Areas) (h : Sent) (e : h .settings .release ≡ 2) (checked : Bool
         forbids = by-sum a h as-is as-capitals same-sums .0;
         wrong = by-sum a h as-is as-capitals same-sums .1;
         station = refl;
+        names = λ s. named-as-is s ∙ sym (named-capitals s);
         asks = same-asked;
         does = λ s z q.
             done-alike a h as-is as-capitals z

@@ -1,6 +1,6 @@
 -- Areas of document 01's lengths whose journal holds good entries: no test of an area refuses them.
 use Prim.Native.Nat.{ℕ, _*_, _/_, _%_, _≤_}
-use mathlib.Core.Path.{_≡_, ap, ap₂, _∙_}
+use mathlib.Core.Path.{_≡_, refl, sym, ap, ap₂, _∙_}
 use mathlib.Core.Bool.{Bool, true, cond, _&&_}
 use mathlib.Core.List.{List}
 use native.Mathlib.Omega.{arith}
@@ -11,6 +11,7 @@ use Rattle.frames.specs.Frame.{contentIn}
 use Rattle.kinds.specs.declared.Held.{Held}
 use Rattle.kinds.specs.Kinds.{Sound, pointsTag, columnsTag, integersTag, flagsTag, kindOf, heldIn, sizeOf}
 use Rattle.kinds.proofs.Known.{kind-points, kind-columns, kind-integers, kind-flags}
+use Rattle.points.specs.Point.{effectiveIn}
 use Rattle.journal.specs.Journal.{Entry, encodes}
 use Rattle.journal.specs.Laws.{AllGood}
 use Rattle.journal.specs.Laws as journal
@@ -19,9 +20,10 @@ use Rattle.messages.specs.Rows.{firstOf}
 use Rattle.messages.specs.Asked.{askedRows, askedOf}
 use Rattle.calls.specs.Calls.{Areas, Sent, lengthsOf, areaIn, entriesOf}
 use Rattle.refusals.specs.Refusals.{pointsFit, variablesFit, leastJournal, journalFits, refusalOf, backRefusalOf}
-use Rattle.refusals.proofs.Rows.{AreasPass, past-areas, back-rows, ownNumber, lateNumber, refusal-is}
+use Rattle.refusals.proofs.Rows.{AreasPass, past-areas, ownBack, back-rows, ownNumber, sumNumber, refusal-is}
+use Rattle.refusals.proofs.Tested.{true-fits}
 use Rattle.demands.specs.Refused.{asksWrite}
-use Rattle.demands.specs.History.{messageBy, ours, callOn, acceptedWrite, entries}
+use Rattle.demands.specs.History.{messageBy, ours, callOn, acceptedWrite, CountTrue, entries}
 use Rattle.demands.proofs.Refused.{one-number}
 use Rattle.demands.proofs.Journals.{area-long}
 
@@ -37,13 +39,14 @@ pub record Shape (held : Held) (size : ℕ) (a : Areas) (es : List Entry) : Type
   pub holds : journal.Holds size es (a .journal) (a .kept .used)
   pub good : AllGood held es
   pub fits : length (encodes es) ≤ size
+  pub counted : a .kept .effective ≡ effectiveIn (held .points) (a .points)
 
 -- whether a board that holds so much accepts a frame as a write, and the number that it gives, whatever stands in such areas
 abbrev pub numberOn : Held → Sent → ℕ
 numberOn held s =
     cond (ltb (length (s .reply)) 1024) 1
     (ownNumber (s .axes) (s .settings) (s .frame)
-    (lateNumber (s .settings) (s .frame)
+    (sumNumber (s .settings) (s .frame)
     (firstOf (askedRows held (s .settings .fitted) (s .settings .release) (messageBy s) (contentIn (s .frame))))))
 
 abbrev pub takes : Held → Sent → Bool
@@ -112,15 +115,29 @@ module _ {held : Held} {size : ℕ} (b : Bounds held size) where
           journal-fits = ap (λ (x : Held). journalFits x (a .journal) (a .kept .used)) held-is ∙ journal-pass;
         }
 
+    -- the count is true, so 11 isn't given
+    pub count-true : CountTrue a
+    count-true = h .counted ∙ ap (λ (x : Held). effectiveIn (x .points) (a .points)) (sym held-is)
+
     pub back-is : backRefusalOf a ≡ cond (eqb (a .kept .used) 0) 9 0
     unfolding backRefusalOf
-    back-is = back-rows (lengthsOf a) (a .journal) (a .kept) ∙ past-areas (lengthsOf a) (a .journal) (a .kept) passes (cond (eqb (a .kept .used) 0) 9 0)
+    back-is =
+        back-rows (lengthsOf a) (a .journal) (a .kept) (a .points)
+        ∙ past-areas (lengthsOf a) (a .journal) (a .kept) passes (ownBack (lengthsOf a) (a .journal) (a .kept) (a .points))
+        ∙ rw (eq-eqb _ _ count-true)
 
     -- a frame's number, and whether it is taken as a write, is the same on all such areas
     number-is : (s : Sent) → refusalOf (callOn a s) ≡ numberOn held s
     number-is s =
         refusal-is (callOn a s)
         ∙ ap (λ (k : ℕ). cond (ltb (length (s .reply)) 1024) 1 k) (past-areas (lengthsOf a) (a .journal) (a .kept) passes _)
+        ∙ ap
+        (λ (w : Bool).
+        cond (ltb (length (s .reply)) 1024) 1
+        (ownNumber (s .axes) (s .settings) (s .frame)
+        (sumNumber (s .settings) (s .frame)
+        (cond w 11 (firstOf (askedRows (heldIn (lengthsOf a)) (s .settings .fitted) (s .settings .release) (messageBy s) (contentIn (s .frame))))))))
+        (true-fits (messageBy s) (a .points) (a .kept .effective) count-true)
         ∙ ap (λ (x : Held). numberOn x s) held-is
 
     pub takes-is : (s : Sent) → acceptedWrite ours a s ≡ takes held s

@@ -41,7 +41,7 @@ shows-any a o start count some all =
     let v = sound (lengthsOf a) (o .points) (o .variables) .flags in
     let f : start < 16 ^ 4 = omega (arith, w .1, some, x, y, v) in
     let g : count < 16 ^ 4 = omega (arith, n, x) in
-    says a (asksFlags start count) (asksFlags start count ++ digitsIn (eights 0 (runOf (kindIn flagsTag a) start count (a .flags)))) showing o (omega arith)
+    says a (asksFlags start count) (asksFlags start count ++ digitsIn (eights 0 (runOf (kindIn flagsTag a) start count (a .flags)))) showing o refl (omega arith)
     (simp length-append (omega (arith, inverse 4 .as-many start, inverse 4 .as-many count)))
     refl
     (named .4)

@@ -3,20 +3,16 @@ use Prim.Native.Nat.{ℕ, zero, suc, _+_, _-_, _*_, _/_, _%_, _≤_, _<_, _^_}
 use mathlib.Core.Path.{_≡_, refl, sym, ap, ap₂, _∙_}
 use mathlib.Core.Bool.{Bool, true, false, cond, not}
 use mathlib.Core.List.{List, [], _∷_, _++_, append-assoc}
-use native.Mathlib.Nat.{zero-add, add-zero, suc-add}
+use native.Mathlib.Nat.{add-zero}
 use native.Mathlib.Omega.{arith}
 use lib.Bits.{bitAnd}
 use lib.Dec.{leb, eqb}
 use lib.IntN.{pos}
-use lib.ListN.{length, take, drop, getD, replicate, length-append, length-drop, take-append-drop, replicate-append-replicate, List·getD-append}
+use lib.ListN.{length, take, drop, getD, replicate, length-append, length-drop, take-append-drop, List·getD-append}
 use lib.Seq.{length-take-le, take-take, take-at, take-append-le, drop-append-le, drop-at, drop-drop}
 use borrow.Author.Tests.{leb-true, le-leb, not-true}
 use Rattle.digits.specs.Digits.{capitals, digitsOf, allDigits, numberOf}
 use Rattle.digits.proofs.Inverse.{and-left, and-right}
-use Rattle.digits.specs.Laid.{laid}
-use Rattle.kinds.specs.declared.Held.{Held}
-use Rattle.kinds.specs.Kinds.{pointsOf, holds, runOf, put}
-use Rattle.kinds.proofs.Known.{within}
 use Rattle.points.specs.Units.{position}
 use Rattle.points.specs.Axes.{axesFrom, axesOf}
 use Rattle.points.specs.Point.{positionOf, positionsOf, pointOf, lengthOf, fillsOf, slotOf, slotsOf, positionsIn, pointIn, effectiveIn, pointDigits}
@@ -29,6 +25,7 @@ use Rattle.points.proofs.Capitals as points
 use Rattle.points.proofs.Slotted.{length-pointSlot}
 use Rattle.points.proofs.Promised.{slot, every-digit}
 use Rattle.table.specs.Table.{patternFits, patternsFit}
+use Rattle.slots.proofs.Counted.{zero-slots}
 use Rattle.listing.specs.Listing.{listing, listed}
 use Rattle.demands.specs.Reading.{sent, fitting}
 use Rattle.demands.proofs.Parts.{same-part}
@@ -240,12 +237,6 @@ effective-sent fitted (suc count) digits p =
     ap (λ (x : ℕ). eqb x 0) (slot-pattern digits (slotsOf count digits′)) ∙ first-pattern fitted count digits p in
     rw (e, slot-behind digits (slotsOf count digits′)) (omega arith)
 
--- cleared slots, one by one
-zero-slots : (count : ℕ) → replicate {A = ℕ} (suc count * 40) 0 ≡ replicate 40 0 ++ replicate (count * 40) 0
-zero-slots count =
-    let e : suc count * 40 ≡ 40 + count * 40 = omega arith in
-    ap (λ (x : ℕ). replicate {A = ℕ} x 0) e ∙ sym (replicate-append-replicate 40 (count * 40) 0)
-
 -- one of them
 pub zero-part : (i count : ℕ) → i < count → take 40 (drop (i * 40) (replicate {A = ℕ} (count * 40) 0)) ≡ replicate (1 * 40) 0
 zero-part i zero l = absurd (omega arith)
@@ -262,47 +253,3 @@ pub listed-zero : (room count number : ℕ) (rest : List ℕ) → listed room co
 unfolding listed
 listed-zero room zero number rest = refl
 listed-zero room (suc count) number rest = rw (zero-slots count) (listed-zero room count (suc number) rest)
-
--- none of them is effective
-pub effective-zero : (count : ℕ) → effectiveIn count (replicate (count * 40) 0) ≡ 0
-unfolding effectiveIn
-effective-zero zero = refl
-effective-zero (suc count) = rw (zero-slots count) (let h = effective-zero count in omega arith)
-
--- slots counted in two parts
-effective-parts : (a b : ℕ) (s t : List ℕ) → length s ≡ a * 40 → effectiveIn (a + b) (s ++ t) ≡ effectiveIn a s + effectiveIn b t
-unfolding effectiveIn
-effective-parts zero b [] t l = rw (zero-add b) (sym (zero-add (effectiveIn b t)))
-effective-parts zero b (x ∷ s) t l = absurd (omega arith)
-effective-parts (suc a) b s t l =
-    let h = effective-parts a b (drop 40 s) t (simp length-drop (omega arith)) in
-    rw (suc-add a b, List·getD-append s t 0 0 (omega arith), drop-append-le 40 s t (omega arith)) (omega arith)
-
--- an area in three parts: before a run, the run, and behind it
-effective-three : (n at count : ℕ) (s t u : List ℕ) → at + count ≤ n → length s ≡ at * 40 → length t ≡ count * 40
-    → effectiveIn n (s ++ (t ++ u)) ≡ effectiveIn at s + (effectiveIn count t + effectiveIn (n - (at + count)) u)
-effective-three n at count s t u h l k =
-    let e : n ≡ at + (count + (n - (at + count))) = omega arith in
-    ap (λ (x : ℕ). effectiveIn x (s ++ (t ++ u))) e
-    ∙ effective-parts at (count + (n - (at + count))) s (t ++ u) l
-    ∙ ap (λ (x : ℕ). effectiveIn at s + x) (effective-parts count (n - (at + count)) t u k)
-
--- slots put over others: each effective one counts once
-pub effective-put : (h : Held) (start count : ℕ) (bytes area : List ℕ) → holds (pointsOf h) start count ≡ true → length area ≡ h .points * 40 → length bytes ≡ count * 40
-    → effectiveIn (h .points) (put (pointsOf h) start bytes area) + effectiveIn count (runOf (pointsOf h) start count area) ≡ effectiveIn (h .points) area + effectiveIn count bytes
-unfolding put runOf laid
-effective-put h start count bytes area e l k =
-    let w = within (pointsOf h) start count e in
-    let at : ℕ = start - 1 in
-    let s : List ℕ = take (at * 40) area in
-    let t : List ℕ = take (count * 40) (drop (at * 40) area) in
-    let u : List ℕ = drop (at * 40 + count * 40) area in
-    let ls : length s ≡ at * 40 = length-take-le (at * 40) area (omega arith) in
-    let lt : length t ≡ count * 40 = length-take-le (count * 40) (drop (at * 40) area) (simp length-drop (omega arith)) in
-    let old : area ≡ s ++ (t ++ u) =
-    sym (take-append-drop (at * 40) area)
-    ∙ ap (λ (x : List ℕ). s ++ x) (sym (take-append-drop (count * 40) (drop (at * 40) area)) ∙ ap (λ (x : List ℕ). t ++ x) (drop-drop (count * 40) (at * 40) area)) in
-    let new : s ++ (bytes ++ drop (at * 40 + length bytes) area) ≡ s ++ (bytes ++ u) = ap (λ (x : ℕ). s ++ (bytes ++ drop (at * 40 + x) area)) k in
-    let a = ap (effectiveIn (h .points)) new ∙ effective-three (h .points) at count s bytes u (omega arith) ls k in
-    let b = ap (effectiveIn (h .points)) old ∙ effective-three (h .points) at count s t u (omega arith) ls lt in
-    omega arith

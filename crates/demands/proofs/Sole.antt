@@ -5,7 +5,7 @@ use mathlib.Core.List.{List}
 use Rattle.link.specs.declared.Answered.{Answered}
 use Rattle.back.specs.declared.Back.{Back}
 use Rattle.calls.specs.Calls.{Call}
-use Rattle.board.specs.Calls.{answeredOf, backedOf}
+use Rattle.board.specs.Calls.{keptOf, answeredOf, backedOf}
 use Rattle.demands.specs.Sole.{OneAnswer, OneCheck, OneStepBack, OneFound, OneReceive, OneCabinetAnswer, OneCabinetCheck, OneCabinetBack}
 
 pub one-answer : OneAnswer
@@ -35,10 +35,17 @@ one-receive f c c′ s s′ l l′ d d′ x y =
     (x .code-is ∙ sym (y .code-is), x .start-is ∙ sym (y .start-is), x .length-is ∙ sym (y .length-is), x .drop-is ∙ sym (y .drop-is))
 
 pub one-cabinet-answer : OneCabinetAnswer
-one-cabinet-answer outcomeOf c n n′ l l′ u u′ s s′ a a′ reply reply′ x y =
+one-cabinet-answer outcomeOf c n n′ l l′ u u′ v v′ s s′ a a′ reply reply′ x y =
     let t = outcomeOf c .sum in
-    let h = one-answer outcomeOf c (answeredOf n l u t) (answeredOf n′ l′ u′ t) a a′ reply reply′ (x .gives) (y .gives) in
-    (ap (λ (r : Answered). r .number) (h .0), ap (λ (r : Answered). r .length) (h .0), ap (λ (r : Answered). r .kept .used) (h .0), x .sum-is ∙ sym (y .sum-is), h .1, h .2)
+    let h = one-answer outcomeOf c (answeredOf n l (keptOf u v) t) (answeredOf n′ l′ (keptOf u′ v′) t) a a′ reply reply′ (x .gives) (y .gives) in (
+      ap (λ (r : Answered). r .number) (h .0),
+      ap (λ (r : Answered). r .length) (h .0),
+      ap (λ (r : Answered). r .kept .used) (h .0),
+      ap (λ (r : Answered). r .kept .effective) (h .0),
+      x .sum-is ∙ sym (y .sum-is),
+      h .1,
+      h .2,
+    )
 
 pub one-cabinet-check : OneCabinetCheck
 one-cabinet-check c n n′ s s′ m m′ start start′ count count′ x y = (
@@ -50,6 +57,6 @@ one-cabinet-check c n n′ s s′ m m′ start start′ count count′ x y = (
 )
 
 pub one-cabinet-back : OneCabinetBack
-one-cabinet-back before n n′ u u′ a a′ x y =
-    let h = one-step-back before (backedOf n u) (backedOf n′ u′) a a′ x y in
-    (ap (λ (r : Back). r .number) (h .0), ap (λ (r : Back). r .kept .used) (h .0), h .1)
+one-cabinet-back before n n′ u u′ v v′ a a′ x y =
+    let h = one-step-back before (backedOf n u v) (backedOf n′ u′ v′) a a′ x y in
+    (ap (λ (r : Back). r .number) (h .0), ap (λ (r : Back). r .kept .used) (h .0), ap (λ (r : Back). r .kept .effective) (h .0), h .1)

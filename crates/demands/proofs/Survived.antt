@@ -26,20 +26,21 @@ use Rattle.frames.proofs.Three.{said-off, one-of-three}
 use Rattle.digits.proofs.Bools.{was-not}
 use Rattle.refusals.proofs.Rows.{call-passed}
 use Rattle.link.proofs.Carrying.{fine}
-use Rattle.demands.specs.History.{messageBy, ours}
-use Rattle.demands.specs.Reading.{startOf, countOf, RunRead, IntegersStored, FlagRead, FlagStored, PointsRead, PointsGone, Reads, effectiveOf}
+use Rattle.demands.specs.History.{messageBy, ours, effectiveOf}
+use Rattle.demands.specs.Reading.{startOf, countOf, RunRead, IntegersStored, FlagRead, FlagStored, PointsRead, PointsGone, Reads}
 use Rattle.demands.specs.Survive.{Accepted, HeardAgain, effectiveNamed, Once, EveryDigitSurvives}
 use Rattle.demands.proofs.Refused.{one-number}
 use Rattle.demands.proofs.Commands.{writing, clearing, changing, changingIntegers, setting, row-of, rows, station-byte}
 use Rattle.demands.proofs.Asking.{Took, took}
-use Rattle.demands.proofs.Shaped.{Bounds, passes}
-use Rattle.demands.proofs.Written.{wrote, lengths-kept, open-after, only-named}
+use Rattle.demands.proofs.Shaped.{Bounds, count-true, passes}
+use Rattle.demands.proofs.Written.{wrote, lengths-kept, open-after, counted-still, only-named}
 use Rattle.demands.proofs.Kept.{Standing, standing-next}
 use Rattle.demands.proofs.Codes.{of-columns, of-integers, run-read}
 use Rattle.demands.proofs.Stored.{integers-stored}
 use Rattle.demands.proofs.Shown.{flag-read, flag-stored}
 use Rattle.demands.proofs.Listed.{tells, points-read, points-gone}
-use Rattle.demands.proofs.Slots.{effective-sent, effective-zero, effective-put}
+use Rattle.slots.proofs.Counted.{effective-zero, effective-put}
+use Rattle.demands.proofs.Slots.{effective-sent}
 use Rattle.demands.proofs.Histories.{first, every}
 use Rattle.demands.proofs.Lasting.{standing-past}
 
@@ -100,7 +101,7 @@ module _ (id : ℕ) (follows : Follows) (does : Action) (repeats : Bool) where
       ∙ ap (λ (x : ℕ). effectiveOf (c .areas) + x) e
 
 -- the frame of an accepted call was taken
-taken : {id : ℕ} (c : Call) (a : Accepted id c) → Took (a .message) c
+pub taken : {id : ℕ} (c : Call) (a : Accepted id c) → Took (a .message) c
 taken c a = took (a .message) c (a .known) (one-number .frame c ∙ a .number)
 
 pub heard-again : HeardAgain
@@ -133,6 +134,7 @@ every-digit-survives =
       accepted = λ id c a. one-number .frame c ∙ a .number;
       next = λ id c a. reads (fine c (taken c a .heard) .sound-held .points) (a .known) (standing-next (a .message) c (taken c a) (a .bytes));
       tells = λ id c a. tells (answerOf c .areas) (open-after (a .message) c (taken c a) (a .bytes));
+      count-kept = λ id c a. counted-still (a .message) c (taken c a);
       written-once = written-once;
       cleared-once = cleared-once;
       others = λ id c a. only-named (a .message) c (taken c a);
@@ -140,6 +142,7 @@ every-digit-survives =
           let b : Bounds h size = record { sound = s; least = l; largest = g } in
           let v = every b _ (first b) events in
           record {
+            counted = count-true b (v .shape);
             tells = tells _ (passes b (v .shape));
             read = λ earlier later s m q known. reads (b .sound .points) known (standing-past b _ v earlier later s m q known);
           };

@@ -22,7 +22,8 @@ use Rattle.messages.specs.Asked.{askedRows, numberGiven}
 use Rattle.calls.specs.declared.Told.{Told}
 use Rattle.calls.specs.declared.Told.the-variants.{Untested, Said}
 use Rattle.calls.specs.Calls.{Call, Outcome, lengthsOf, unanswered}
-use Rattle.refusals.specs.Refusals.{areaRows, checkRows, lateRows, early, silentOf, toldOf}
+use Rattle.refusals.specs.Refusals.{areaRows, checkRows, lateRows, countRows, early, silentOf, toldOf}
+use Rattle.refusals.specs.Refusals.{late as lates}
 use Rattle.refusals.proofs.Rows.{EarlyPassed, forbidden, lateNumber, earlyNumber, early-rows, late-rows, late-by, past-early, early-passed, early-given, silent-is, call-passed, told-untested, told-said, same-told-after}
 use Rattle.link.specs.Answer.{held, asked, textOf, areasAfter, answerOf}
 use Rattle.link.proofs.Answering.{silent-answer, heard-answer, asked-number}
@@ -30,29 +31,40 @@ use Rattle.demands.specs.Refused.{among}
 use Rattle.demands.specs.History.{messageBy, ours}
 use Rattle.demands.specs.SwitchedOff.{allowing, silentBefore, Before, butSum, AsBefore, OffAsTrue, Forbidden, OthersSame, earlyNumbers, SumTold, SwitchedOffRule, ContractAsBefore}
 use Rattle.demands.specs.Reading.{before, commandOf}
-use Rattle.demands.proofs.Refused.{answer-either, told-is, number-given, asked-high}
+use Rattle.demands.proofs.Refused.{answer-either, told-is, number-given, wrong, asked-high}
 use Rattle.demands.proofs.Commands.{high, low, summed}
 use Rattle.demands.proofs.Alike.{same-text, same-areas, same-but-sum, text-alike}
 
--- the number that the sum and the station give
-abbrev lateBy : Sum → Bool → Bool → ℕ
-lateBy s unchecked ours = cond (isOff s && not unchecked) 12 (cond (isWrong s) 7 (cond (not ours) 8 0))
+-- the number that the sum and the station give, or what comes behind them
+abbrev lateBy : Sum → Bool → Bool → ℕ → ℕ
+lateBy s unchecked ours k = cond (isOff s && not unchecked) 12 (cond (isWrong s) 7 (cond (not ours) 8 k))
 
-is-seven : (s : Sum) (u o : Bool) → lateBy s u o ≡ 7 → s ≡ Wrong
-is-seven True u true e = absurd (omega (arith, e))
-is-seven True u false e = absurd (omega (arith, e))
-is-seven SwitchedOff true true e = absurd (omega (arith, e))
-is-seven SwitchedOff true false e = absurd (omega (arith, e))
-is-seven SwitchedOff false o e = absurd (omega (arith, e))
-is-seven Wrong u o e = refl
+is-seven : (s : Sum) (u o : Bool) (k : ℕ) → (k ≡ 7 → ⊥) → lateBy s u o k ≡ 7 → s ≡ Wrong
+is-seven True u true k n e = absurd (n e)
+is-seven True u false k n e = absurd (omega (arith, e))
+is-seven SwitchedOff true true k n e = absurd (n e)
+is-seven SwitchedOff true false k n e = absurd (omega (arith, e))
+is-seven SwitchedOff false o k n e = absurd (omega (arith, e))
+is-seven Wrong u o k n e = refl
 
-is-twelve : (s : Sum) (u o : Bool) → lateBy s u o ≡ 12 → (s ≡ SwitchedOff) × (u ≡ false)
-is-twelve True u true e = absurd (omega (arith, e))
-is-twelve True u false e = absurd (omega (arith, e))
-is-twelve SwitchedOff true true e = absurd (omega (arith, e))
-is-twelve SwitchedOff true false e = absurd (omega (arith, e))
-is-twelve SwitchedOff false o e = (refl, refl)
-is-twelve Wrong u o e = absurd (omega (arith, e))
+is-twelve : (s : Sum) (u o : Bool) (k : ℕ) → (k ≡ 12 → ⊥) → lateBy s u o k ≡ 12 → (s ≡ SwitchedOff) × (u ≡ false)
+is-twelve True u true k n e = absurd (n e)
+is-twelve True u false k n e = absurd (omega (arith, e))
+is-twelve SwitchedOff true true k n e = absurd (n e)
+is-twelve SwitchedOff true false k n e = absurd (omega (arith, e))
+is-twelve SwitchedOff false o k n e = (refl, refl)
+is-twelve Wrong u o k n e = absurd (omega (arith, e))
+
+-- the count's number, behind them
+abbrev counting : Call → ℕ
+counting c = cond (wrong c) 11 0
+
+count-other : (c : Call) (n : ℕ) → (0 ≡ n → ⊥) → (11 ≡ n → ⊥) → counting c ≡ n → ⊥
+count-other c n zero eleven = go (wrong c)
+  where
+    go : (b : Bool) → _≡_ {A = ℕ} (cond b 11 0) n → ⊥
+    go true e = eleven e
+    go false e = zero e
 
 untested-not : {s : Sum} → Untested ≡ Said s → ⊥
 untested-not {s} e = let z : _≡_ {A = ℕ} 0 1 = ap tag e in omega (arith, z)
@@ -91,8 +103,8 @@ early-silent c n =
 -- with '@@' allowed, the number is that of before
 before-is : (c : Call)
     → silentBefore c
-    ≡ earlyOf c (cond (not (sumTrue (c .sent .settings .release) (c .sent .frame) || sumOff (c .sent .frame))) 7 (cond (not (stationPasses (c .sent .settings .release) (c .sent .settings .station) (c .sent .frame))) 8 0))
-unfolding checkRows areaRows
+    ≡ earlyOf c (cond (not (sumTrue (c .sent .settings .release) (c .sent .frame) || sumOff (c .sent .frame))) 7 (cond (not (stationPasses (c .sent .settings .release) (c .sent .settings .station) (c .sent .frame))) 8 (counting c)))
+unfolding checkRows areaRows countRows
 before-is c = refl
 
 allowed-silent : (c : Call) → silentOf (allowing true c) ≡ silentBefore c
@@ -147,11 +159,12 @@ off-as-true a h u said =
 -- the number of what no test before the sum refuses
 pub late-number : (c : Call) → firstOf (early c) ≡ 0
     → silentOf c ≡ lateBy (sumSaid (c .sent .settings .release) (c .sent .frame)) (c .sent .settings .unchecked) (stationPasses (c .sent .settings .release) (c .sent .settings .station) (c .sent .frame))
+    (counting c)
 late-number c e =
     silent-is c
-    ∙ late c e (lateNumber (c .sent .settings) (c .sent .frame) 0)
-    ∙ sym (late-rows (c .sent .settings) (c .sent .frame))
-    ∙ late-by (c .sent .settings) (c .sent .frame) (sumSaid (c .sent .settings .release) (c .sent .frame)) refl
+    ∙ late c e (lateNumber (c .sent .settings) (c .sent .frame) (c .areas .points) (c .areas .kept) 0)
+    ∙ sym (late-rows (c .sent .settings) (c .sent .frame) (c .areas .points) (c .areas .kept))
+    ∙ late-by (c .sent .settings) (c .sent .frame) (c .areas .points) (c .areas .kept) (sumSaid (c .sent .settings .release) (c .sent .frame)) refl
 
 -- a number from 1 to 100 is that of a refusal without a reply, and such a one is the number
 silent-of : (c : Call) (k : ℕ) → 1 ≤ k → k < 101 → answerOf c .number ≡ k → silentOf c ≡ k
@@ -233,14 +246,14 @@ asked-late held fitted release (Known m) content =
     number-given (λ (k : ℕ). among k earlyNumbers ≡ false) (askedRows held fitted release (Known m) content) refl (refl, (refl, (refl, (refl, (refl, (refl, (refl, tt)))))))
 
 late-listed : (c : Call) → firstOf (early c) ≡ 0 → among (answerOf c .number) earlyNumbers ≡ false
-unfolding lateRows
+unfolding lateRows countRows
 late-listed c e =
     answer-either c (λ (o : Outcome). among (o .number) earlyNumbers ≡ false)
     (λ _.
     rw (asked-number c) (asked-late (held c) (c .sent .settings .fitted) (c .sent .settings .release) (messageBy (c .sent)) (contentIn (c .sent .frame))))
     (λ _.
-    rw (silent-is c ∙ late c e (lateNumber (c .sent .settings) (c .sent .frame) 0))
-    (number-given (λ (k : ℕ). among k earlyNumbers ≡ false) (lateRows (c .sent .settings) (c .sent .frame)) refl (refl, (refl, (refl, tt)))))
+    rw (silent-is c ∙ late c e (lateNumber (c .sent .settings) (c .sent .frame) (c .areas .points) (c .areas .kept) 0))
+    (number-given (λ (k : ℕ). among k earlyNumbers ≡ false) (lates c) refl (refl, (refl, (refl, (refl, tt))))))
 
 early-some : (c : Call) → (firstOf (early c) ≡ 0 → ⊥) → among (answerOf c .number) earlyNumbers ≡ true
 early-some c n =
@@ -294,13 +307,13 @@ module _ (c : Call) where
             let z = was-tested c f in
             (λ e. o .off .0 (o .says-off .0 (ap saidIn (sym (tested z) ∙ e))), λ q. tested z ∙ ap Said (o .says-off .1 (o .off .1 q)));
         seven = (
-          λ e. let z = was-tested c (rw e) in tested z ∙ ap Said (is-seven said unchecked to-us (sym (late-number c z) ∙ silent-of c 7 (omega arith) (omega arith) e)),
+          λ e. let z = was-tested c (rw e) in tested z ∙ ap Said (is-seven said unchecked to-us (counting c) (count-other c 7 (λ z. omega (arith, z)) (λ z. omega (arith, z))) (sym (late-number c z) ∙ silent-of c 7 (omega arith) (omega arith) e)),
           λ e. let t = told-tested Wrong e in number-of c 7 (omega arith) (late-number c (t .0) ∙ rw (t .1)),
         );
         twelve = (
           λ e.
               let z = was-tested c (rw e) in
-              let t = is-twelve said unchecked to-us (sym (late-number c z) ∙ silent-of c 12 (omega arith) (omega arith) e) in
+              let t = is-twelve said unchecked to-us (counting c) (count-other c 12 (λ z. omega (arith, z)) (λ z. omega (arith, z))) (sym (late-number c z) ∙ silent-of c 12 (omega arith) (omega arith) e) in
               (tested z ∙ ap Said (t .0), t .1),
           λ e. let t = told-tested SwitchedOff (e .0) in number-of c 12 (omega arith) (late-number c (t .0) ∙ rw (t .1, e .1)),
         );

@@ -87,7 +87,7 @@ module _ (a : Areas) (o : Open a) (h : Sent) (host : Host h) (checked : Bool) (g
   fits = eq-eqb (length asks) 13 (omega arith)
 
   takes : TakenAs testing a h checked asks
-  takes = taken-as a asks testing o (omega arith) (omega arith) fits (named .5) (λ fitted release. right-ten (heldIn (lengthsOf a)) fitted release ten l) h host checked g
+  takes = taken-as a asks testing o refl (omega arith) (omega arith) fits (named .5) (λ fitted release. right-ten (heldIn (lengthsOf a)) fitted release ten l) h host checked g
 
   -- the ten bytes come back
   ten-back : answerOf call .text ≡ replyOf normal (h .settings .station) asks

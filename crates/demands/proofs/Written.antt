@@ -6,18 +6,19 @@ use mathlib.Core.List.{List}
 use native.Mathlib.Omega.{arith}
 use lib.Dec.{eqb}
 use lib.ListN.{length}
-use borrow.Author.Tests.{eqb-true, eqb-false}
+use borrow.Author.Tests.{eq-eqb, ne-eqb, eqb-true, eqb-false}
 use Rattle.kinds.specs.declared.Kind.{Kind}
-use Rattle.kinds.specs.Kinds.{pointsTag, columnsTag, integersTag, flagsTag, holds, sizeOf, put}
+use Rattle.kinds.specs.Kinds.{pointsTag, columnsTag, integersTag, flagsTag, pointsOf, heldIn, holds, sizeOf, put}
 use Rattle.kinds.proofs.Known.{tag-of, own-kind, room, run-length}
 use Rattle.kinds.proofs.Promised.{run}
-use Rattle.journal.specs.Journal.{entryFor}
+use Rattle.points.specs.Point.{effectiveIn}
+use Rattle.journal.specs.Journal.{puts, entryFor}
 use Rattle.journal.specs.Laws.{Good}
 use Rattle.journal.proofs.Codec.{Bytes}
 use Rattle.journal.proofs.Fitting.{good}
 use Rattle.table.specs.declared.Message.{Message}
-use Rattle.calls.specs.Calls.{Areas, Call, Outcome, lengthsOf, areaIn, oldEntry, written}
-use Rattle.calls.proofs.Tagged.{put-own, put-other}
+use Rattle.calls.specs.Calls.{Areas, Call, Outcome, lengthsOf, areaIn, countAfter, oldEntry, written}
+use Rattle.calls.proofs.Tagged.{put-own, put-other, counted-after}
 use Rattle.kinds.specs.declared.Lengths.{Lengths}
 use Rattle.refusals.specs.Refusals.{journalFits}
 use Rattle.refusals.proofs.Rows.{AreasPass, call-passed}
@@ -25,7 +26,7 @@ use Rattle.orders.specs.Orders.{writes}
 use Rattle.link.specs.Answer.{held, answerOf}
 use Rattle.orders.proofs.Judging.{Writable, writable}
 use Rattle.link.proofs.Carrying.{fine, areas-long}
-use Rattle.demands.specs.History.{ours}
+use Rattle.demands.specs.History.{ours, effectiveOf, CountTrue}
 use Rattle.demands.specs.Reading.{content, startOf, countOf}
 use Rattle.demands.specs.Survive.{Outside, OnlyNamed}
 use Rattle.demands.specs.LookFirst.{kindNamed, bytesSaid}
@@ -96,6 +97,29 @@ module _ (m : Message) (c : Call) (t : Took m c) where
                 subst (λ (x : ℕ). length (areaIn x (answerOf c .areas)) ≡ length (areaIn x (c .areas))) (sym (eqb-true tag (m .tag) e)) (wrote .only .outside .as-long)
             go false e = ap length (wrote .only .others tag (eqb-false _ _ e))
 
+    -- the count that it hands on
+    pub count-left : answerOf c .areas .kept .effective
+        ≡ countAfter (held c) (entryFor (m .tag) (startOf m (c .sent)) (newIn m c)) (c .areas)
+    count-left = ap (λ (a : Areas). a .kept .effective) (areas-left true w)
+
+    slots-left : effectiveOf (answerOf c .areas)
+        ≡ effectiveIn (held c .points) (puts (pointsOf (held c)) (entryFor (m .tag) (startOf m (c .sent)) (newIn m c)) (c .areas .points))
+    slots-left =
+        ap (λ (x : Lengths). effectiveIn (heldIn x .points) (answerOf c .areas .points)) lengths-kept
+        ∙ ap (λ (a : Areas). effectiveIn (held c .points) (a .points)) (areas-left true w)
+
+    -- true after a write of points, and where it was true
+    pub points-counted : m .tag ≡ pointsTag → CountTrue (answerOf c .areas)
+    points-counted e = count-left ∙ rw (eq-eqb _ _ e) (sym slots-left)
+
+    pub still-counted : CountTrue (c .areas) → CountTrue (answerOf c .areas)
+    still-counted t =
+        count-left ∙ counted-after (held c) (entryFor (m .tag) (startOf m (c .sent)) (newIn m c)) (c .areas) t ∙ sym slots-left
+
+    -- and as given where it is of another kind
+    pub count-given : (m .tag ≡ pointsTag → ⊥) → answerOf c .areas .kept .effective ≡ c .areas .kept .effective
+    count-given n = count-left ∙ rw (ne-eqb _ _ n)
+
     -- the old bytes, added to a journal that has room for them, leave one that the next call takes
     journal-last : Bytes (c .areas .journal) → journalFits (held c) (answerOf c .areas .journal) (answerOf c .areas .kept .used) ≡ true
     journal-last bs =
@@ -122,6 +146,14 @@ module _ (m : Message) (c : Call) (t : Took m c) where
           subst (λ (x : Lengths). AreasPass x (answerOf c .areas .journal) (answerOf c .areas .kept)) (sym (lengths-kept w))
           (record { points = passed .points; columns = passed .columns; variables = passed .variables; journal-fits = journal-last w bs })
       go false w = subst Open (sym (areas-left false w)) passed
+
+  -- and a true count true
+  pub counted-still : CountTrue (c .areas) → CountTrue (answerOf c .areas)
+  counted-still n = go (writes (m .does)) refl
+    where
+      go : (b : Bool) → writes (m .does) ≡ b → CountTrue (answerOf c .areas)
+      go true w = still-counted w n
+      go false w = subst CountTrue (sym (areas-left false w)) n
 
   -- an accepted message changes nothing but what it names
   pub only-named : OnlyNamed ours m c

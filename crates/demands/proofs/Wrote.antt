@@ -24,7 +24,7 @@ use Rattle.messages.specs.declared.Asked.the-variants.{Refused, Order}
 use Rattle.table.specs.Table.{restIn}
 use Rattle.messages.specs.Asked.{askedOf}
 use Rattle.calls.specs.Calls.{Areas, Sent, Outcome, areaIn, putIn, oldEntry, written}
-use Rattle.calls.proofs.Tagged.{each-long, same-areas}
+use Rattle.calls.proofs.Tagged.{each-long, same-areas, counted-after}
 use Rattle.orders.specs.Orders.{writes, newBytes}
 use Rattle.link.specs.Answer.{areasAfter, storedBy, answerOf}
 use Rattle.link.proofs.Answering.{accepted, heard-answer}
@@ -163,5 +163,6 @@ shaped {held} {size} w b {a} {es} h =
             used = ap₂ (λ (m : ℕ) (x : List Entry). length (encodes (added m x (oldBy w a)))) (journal-long b h) (entries-held b h);
           };
       good = good-added held size es (oldBy w a) (h .good) (old-good w a (h .long) b);
+      counted = counted-after held (entryOf w) a (h .counted);
       fits = added-fits size es (oldBy w a) (omega (arith, length-encode (oldBy w a), old-long w a (h .long), w .able .run .few-bytes, b .least));
     }

@@ -7,6 +7,7 @@ use Rattle.demands.specs.TestCalls.{TestCalls}
 use Rattle.demands.specs.Releases.{Releases, SameAnswer}
 use Rattle.demands.specs.SwitchedOff.{SwitchedOffRule, ContractAsBefore}
 use Rattle.demands.specs.OneByte.{OneByte}
+use Rattle.demands.specs.KeptCount.{KeptCount}
 use Rattle.demands.specs.LookFirst.{ourPanel, LookFirst, ContractsAsOne, CabinetAsOne, CabinetLooks}
 
 -- "A frame that is refused changes no point, no column and nothing in the journal, and a refusal has one number and one fixed reply, or none."; no
@@ -42,6 +43,8 @@ pub record Demand2 : Type 0 where
   pub contracts-as-one : ContractsAsOne
   pub cabinet-as-one : CabinetAsOne
   pub cabinet-looks : CabinetLooks
+  -- "it always equals the count of slots with a non-zero pattern", "only 208H trusts the kept count", and refusal 11 (02, b)
+  pub kept-count : KeptCount ours
 
 -- "After any sequence of frames and steps back, points and columns are exactly what the accepted writes not taken back would leave"; "all four kinds"
 -- (02, a)

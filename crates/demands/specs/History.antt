@@ -1,6 +1,6 @@
 -- Demand 3: histories of frames and steps back, from fresh. "use the same ones throughout, hand each call the used length the last one handed back,
--- and let nothing else write them"; the first numbers stay too: "while the settings stay as they were at fresh" (02, a). Station, axes,
--- release and whether '@@' is allowed come with each frame.
+-- and let nothing else write them"; "demand 3 asks that handing on too" of the count, "from count 0" (02, b); the first numbers stay too: "while the
+-- settings stay as they were at fresh" (02, a). Station, axes, release and whether '@@' is allowed come with each frame.
 use Prim.Native.Nat.{ℕ, _≤_}
 use mathlib.Core.Path.{_≡_}
 use mathlib.Core.Logic.{_↔_}
@@ -12,6 +12,7 @@ use Rattle.kinds.specs.declared.Held.{Held}
 use Rattle.kinds.specs.Kinds.{kindOf, heldIn, Sound}
 use Rattle.frames.specs.Frame.{contentIn}
 use Rattle.journal.specs.Journal.{Entry, encodes, added, areaOf, others, entryFor}
+use Rattle.points.specs.Point.{effectiveIn}
 use Rattle.table.specs.declared.Named.{Named}
 use Rattle.table.specs.declared.Named.the-variants.{Known, Unknown}
 use Rattle.table.specs.Table.{messageOf, startIn, countIn, restIn}
@@ -54,6 +55,13 @@ pub record Past : Type 0 where
 -- the entries in the journal
 abbrev pub entries : Areas → List Entry
 entries a = entriesOf (heldIn (lengthsOf a)) a
+
+-- "the count of slots with a non-zero pattern", and "a count that is true": that which is kept equals it (02, b)
+abbrev pub effectiveOf : Areas → ℕ
+effectiveOf a = effectiveIn (heldIn (lengthsOf a) .points) (a .points)
+
+abbrev pub CountTrue : Areas → Type 0
+CountTrue a = a .kept .effective ≡ effectiveOf a
 
 -- the message that a frame names, under the release that it is sent with (02, l)
 abbrev pub messageBy : Sent → Named
@@ -128,7 +136,11 @@ module _ (board : Conduct) where
     pub dropped : List Entry
     pub newest : entered held (fresh held size) (p .standing-writes) ≡ dropped ++ entries (p .areas)
     pub journal : p .areas .journal ≡ areaOf size (entries (p .areas))
-    pub kept : p .areas .kept ≡ record { used = length (encodes (entries (p .areas))) }
+    pub used : p .areas .kept .used ≡ length (encodes (entries (p .areas)))
+    -- the count "always equals the count of slots with a non-zero pattern" (02, b), so 11 never comes
+    pub counted : CountTrue (p .areas)
+    pub never-eleven : (s : Sent) → board .answer (callOn (p .areas) s) .number ≡ 11 → ⊥
+    pub never-back : board .back (p .areas) .number ≡ 11 → ⊥
     -- which frames are accepted is the table's; an accepted write adds its entry by the journal's rule; any other frame changes nothing
     pub numbers : (s : Sent) → board .answer (callOn (p .areas) s) .number ≡ refusalOf (callOn (p .areas) s)
     pub adds :

@@ -9,4 +9,5 @@ pub mod Releases
 pub mod SwitchedOff
 pub mod OneByte
 pub mod LookFirst
+pub mod KeptCount
 pub mod Demands

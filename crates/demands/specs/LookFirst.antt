@@ -113,9 +113,9 @@ ContractsAsOne =
 -- and for the C calls
 abbrev pub CabinetAsOne : Type 0
 CabinetAsOne =
-    (c : Call) (n n′ l l′ u u′ s s′ : ℕ) (a a′ : Areas) (reply reply′ : List ℕ)
-    → CabinetActs c n l u s a reply → CabinetAnswers c n′ l′ u′ s′ a′ reply′
-    → (n ≡ n′) × (l ≡ l′) × (u ≡ u′) × (s ≡ s′) × (a ≡ a′) × (reply ≡ reply′)
+    (c : Call) (n n′ l l′ u u′ v v′ s s′ : ℕ) (a a′ : Areas) (reply reply′ : List ℕ)
+    → CabinetActs c n l u v s a reply → CabinetAnswers c n′ l′ u′ v′ s′ a′ reply′
+    → (n ≡ n′) × (l ≡ l′) × (u ≡ u′) × (v ≡ v′) × (s ≡ s′) × (a ≡ a′) × (reply ≡ reply′)
 
 -- `cabinet_check`, which is handed no reply area, and then `cabinet_act`: the number, `*sum`, and what is left
 pub record CabinetHalves (c : Call) (k told m start count n s : ℕ) (after : Areas) : Type 0 where
@@ -125,5 +125,5 @@ pub record CabinetHalves (c : Call) (k told m start count n s : ℕ) (after : Ar
 
 abbrev pub CabinetLooks : Type 0
 CabinetLooks =
-    (c : Call) (k told m start count n l u s : ℕ) (a : Areas) (reply : List ℕ)
-    → CabinetChecks (replyingIn [] c) k told m start count → CabinetActs c n l u s a reply → CabinetHalves c k told m start count n s a
+    (c : Call) (k told m start count n l u v s : ℕ) (a : Areas) (reply : List ℕ)
+    → CabinetChecks (replyingIn [] c) k told m start count → CabinetActs c n l u v s a reply → CabinetHalves c k told m start count n s a

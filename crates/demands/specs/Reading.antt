@@ -13,7 +13,7 @@ use Rattle.kinds.specs.declared.Kind.{Kind}
 use Rattle.kinds.specs.Kinds.{pointsTag, columnsTag, integersTag, flagsTag, pointsOf, kindOf, heldIn, holds, placeOf, runOf}
 use Rattle.pairs.specs.Pairs.{digitsIn}
 use Rattle.flags.specs.Flags.{eights, bitAt}
-use Rattle.points.specs.Point.{lengthOf, effectiveIn}
+use Rattle.points.specs.Point.{lengthOf}
 use Rattle.table.specs.declared.Message.{Message}
 use Rattle.table.specs.declared.Named.{Named}
 use Rattle.table.specs.declared.Named.the-variants.{Known, Unknown}
@@ -21,7 +21,7 @@ use Rattle.table.specs.Table.{startIn, countIn, restIn}
 use Rattle.listing.specs.Listing.{listed as listedIn, joined}
 use Rattle.calls.specs.Calls.{Areas, Sent, Call, callOf, lengthsOf, areaIn}
 use Rattle.refusals.specs.Refusals.{axesFit, releaseFits}
-use Rattle.demands.specs.History.{Conduct, messageBy}
+use Rattle.demands.specs.History.{Conduct, messageBy, effectiveOf, CountTrue}
 
 -- a frame's content ("Frame"), and the start number, the count and what follows them as its message reads these ("Each message")
 abbrev pub content : Sent → List ℕ
@@ -193,10 +193,6 @@ pub record Reads (board : Conduct) (a : Areas) (m : Message) (s : Sent) (later :
   pub points : m .id ≡ 0x244 → PointsRead board a m s later
   pub cleared : m .id ≡ 0x246 → PointsGone board a m s later
 
--- "slots with a non-zero pattern"
-abbrev pub effectiveOf : Areas → ℕ
-effectiveOf a = effectiveIn (heldIn (lengthsOf a) .points) (a .points)
-
 -- the slots from a number on
 abbrev pub slotsFrom : ℕ → Areas → List ℕ
 slotsFrom number a = drop (placeOf (pointsOf (heldIn (lengthsOf a))) number) (a .points)
@@ -207,10 +203,10 @@ RunTold board a id tag =
     (start count : ℕ) → 1 ≤ count → count ≤ 255 → holds (kindIn tag a) start count ≡ true
     → Says board a (asksRun id start count) (asksRun id start count ++ digitsIn (runOf (kindIn tag a) start count (areaIn tag a)))
 
--- what is told of all that is held, whoever wrote it ("Each message"; 02, a): 208H counts the effective points, 209H of any points lists those among
+-- what is told of all that is held, whoever wrote it ("Each message"; 02, a): 208H the number of effective points, "with a count that is true" (02, b), 209H of any points lists those among
 -- them, as many leading ones as fit, 210H of any columns and 20EH of any integers say two digits for each byte, 20DH of any flags shows each eight
 pub record Tells (board : Conduct) (a : Areas) : Type 0 where
-  pub counted : Says board a (text "208") (text "208" ++ digitsOf 3 (effectiveOf a))
+  pub counted : CountTrue a → Says board a (text "208") (text "208" ++ digitsOf 3 (effectiveOf a))
   pub listed :
       (start count : ℕ) → 1 ≤ count → holds (pointsOf (heldIn (lengthsOf a))) start count ≡ true
       → Says board a (asksPoints start count) (lists (listedIn listRoom count start (slotsFrom start a)))

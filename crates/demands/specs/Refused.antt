@@ -21,14 +21,14 @@ pub record OneNumber : Type 0 where
   pub frame : (c : Call) → answerOf c .number ≡ refusalOf c
   pub back : (a : Areas) → backOf a .number ≡ backRefusalOf a
 
--- a frame's numbers ("Refusal numbers"; 02, a, f and l): "An accepted call has number 0", 1 to 8, 10, 12 and 13 come without a reply, 101 to 108 with the
+-- a frame's numbers ("Refusal numbers"; 02, a, b, f and l): "An accepted call has number 0", 1 to 8 and 10 to 13 come without a reply, 101 to 108 with the
 -- error reply
 abbrev pub frameNumbers : List ℕ
-frameNumbers = 0 ∷ 1 ∷ 2 ∷ 3 ∷ 10 ∷ 4 ∷ 5 ∷ 13 ∷ 6 ∷ 12 ∷ 7 ∷ 8 ∷ 101 ∷ 102 ∷ 103 ∷ 104 ∷ 105 ∷ 106 ∷ 107 ∷ 108 ∷ []
+frameNumbers = 0 ∷ 1 ∷ 2 ∷ 3 ∷ 10 ∷ 4 ∷ 5 ∷ 13 ∷ 6 ∷ 12 ∷ 7 ∷ 8 ∷ 11 ∷ 101 ∷ 102 ∷ 103 ∷ 104 ∷ 105 ∷ 106 ∷ 107 ∷ 108 ∷ []
 
--- the step back's: it "tests 2, 3, 4, then 9" ("Refusal numbers"), and 10 after 3 (02, a)
+-- the step back's: it "tests 2, 3, 4, then 9" ("Refusal numbers"), 10 after 3 (02, a) and 11 after 4 (02, b)
 abbrev pub backNumbers : List ℕ
-backNumbers = 0 ∷ 2 ∷ 3 ∷ 10 ∷ 4 ∷ 9 ∷ []
+backNumbers = 0 ∷ 2 ∷ 3 ∷ 10 ∷ 4 ∷ 11 ∷ 9 ∷ []
 
 -- a number stands in such a list
 abbrev pub among : ℕ → List ℕ → Bool

@@ -43,12 +43,12 @@ OneReceive =
     (f : Found) (code code′ start start′ length length′ drop drop′ : ℕ) → Receives f code start length drop → Receives f code′ start′ length′ drop′
     → (code ≡ code′) × (start ≡ start′) × (length ≡ length′) × (drop ≡ drop′)
 
--- `cabinet_answer` and `cabinet_act`: the number, `*reply_length`, `*used`, `*sum`, and every lent byte
+-- `cabinet_answer` and `cabinet_act`: the number, `*reply_length`, `*used`, `*effective`, `*sum`, and every lent byte
 abbrev pub OneCabinetAnswer : Type 0
 OneCabinetAnswer =
-    (outcomeOf : Call → Outcome) (c : Call) (n n′ l l′ u u′ s s′ : ℕ) (a a′ : Areas) (reply reply′ : List ℕ)
-    → CabinetGives outcomeOf c n l u s a reply → CabinetGives outcomeOf c n′ l′ u′ s′ a′ reply′
-    → (n ≡ n′) × (l ≡ l′) × (u ≡ u′) × (s ≡ s′) × (a ≡ a′) × (reply ≡ reply′)
+    (outcomeOf : Call → Outcome) (c : Call) (n n′ l l′ u u′ v v′ s s′ : ℕ) (a a′ : Areas) (reply reply′ : List ℕ)
+    → CabinetGives outcomeOf c n l u v s a reply → CabinetGives outcomeOf c n′ l′ u′ v′ s′ a′ reply′
+    → (n ≡ n′) × (l ≡ l′) × (u ≡ u′) × (v ≡ v′) × (s ≡ s′) × (a ≡ a′) × (reply ≡ reply′)
 
 -- `cabinet_check`: its number, `*sum`, `*message`, `*start` and `*count`
 abbrev pub OneCabinetCheck : Type 0
@@ -56,8 +56,8 @@ OneCabinetCheck =
     (c : Call) (n n′ s s′ m m′ start start′ count count′ : ℕ) → CabinetChecks c n s m start count → CabinetChecks c n′ s′ m′ start′ count′
     → (n ≡ n′) × (s ≡ s′) × (m ≡ m′) × (start ≡ start′) × (count ≡ count′)
 
--- `cabinet_step_back`: its number, `*used`, and every lent byte
+-- `cabinet_step_back`: its number, `*used`, `*effective`, and every lent byte
 abbrev pub OneCabinetBack : Type 0
 OneCabinetBack =
-    (before : Areas) (n n′ u u′ : ℕ) (a a′ : Areas)
-    → StepsBack before (backedOf n u) a → StepsBack before (backedOf n′ u′) a′ → (n ≡ n′) × (u ≡ u′) × (a ≡ a′)
+    (before : Areas) (n n′ u u′ v v′ : ℕ) (a a′ : Areas)
+    → StepsBack before (backedOf n u v) a → StepsBack before (backedOf n′ u′ v′) a′ → (n ≡ n′) × (u ≡ u′) × (v ≡ v′) × (a ≡ a′)

@@ -16,8 +16,8 @@ use Rattle.calls.specs.Calls.{Sent, Call, areaIn}
 use Rattle.refusals.specs.Refusals.{refusalOf}
 use Rattle.orders.specs.Orders.{writes}
 use Rattle.link.specs.Answer.{held}
-use Rattle.demands.specs.History.{Conduct, messageBy, Past, AfterAny}
-use Rattle.demands.specs.Reading.{startOf, countOf, Host, allowed, Reads, effectiveOf, Tells}
+use Rattle.demands.specs.History.{Conduct, effectiveOf, CountTrue, messageBy, Past, AfterAny}
+use Rattle.demands.specs.Reading.{startOf, countOf, Host, allowed, Reads, Tells}
 
 -- a frame of a message ("What the board answers"), by the ID of its row in the table, for which no refusal holds, whatever a board makes of it; what is
 -- lent as the journal is bytes
@@ -57,8 +57,10 @@ effectiveNamed m c =
 abbrev pub Once : Conduct → Message → Call → ℕ → Type 0
 Once board m c new = effectiveOf (board .answer c .areas) + effectiveNamed m c ≡ effectiveOf (c .areas) + new
 
--- what is read after a history: what is told of all that is held, and all that a standing write named and no later standing write touched
+-- what is read after a history: what is told of all that is held, the count being true, and all that a standing write named and no later standing write
+-- touched
 pub record Lasts (board : Conduct) (p : Past) : Type 0 where
+  pub counted : CountTrue (p .areas)
   pub tells : Tells board (p .areas)
   pub read :
       (earlier later : List Sent) (s : Sent) (m : Message) → p .standing-writes ≡ earlier ++ (s ∷ later) → messageBy s ≡ Known m
@@ -70,6 +72,8 @@ pub record EveryDigitSurvives (board : Conduct) : Type 0 where
   -- by the very next call after an accepted one, over any areas
   pub next : (id : ℕ) (c : Call) (a : Accepted id c) → Reads board (board .answer c .areas) (a .message) (c .sent) []
   pub tells : (id : ℕ) (c : Call) → Accepted id c → Tells board (board .answer c .areas)
+  -- "with a count that is true" (02, b): an accepted call leaves such a count true
+  pub count-kept : (id : ℕ) (c : Call) → Accepted id c → CountTrue (c .areas) → CountTrue (board .answer c .areas)
   -- a 244H's points are new, a 246H's are none
   pub written-once : (c : Call) (a : Accepted 0x244 c) → Once board (a .message) c (countOf (a .message) (c .sent))
   pub cleared-once : (c : Call) (a : Accepted 0x246 c) → Once board (a .message) c 0

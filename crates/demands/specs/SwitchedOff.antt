@@ -14,7 +14,7 @@ use Rattle.messages.specs.Rows.{_when_, firstOf}
 use Rattle.messages.specs.Asked.{numberGiven}
 use Rattle.calls.specs.declared.Told.the-variants.{Untested, Said}
 use Rattle.calls.specs.Calls.{Areas, Sent, Call, Outcome, callOf, unanswered}
-use Rattle.refusals.specs.Refusals.{early, toldOf}
+use Rattle.refusals.specs.Refusals.{early, countRows, toldOf}
 use Rattle.link.specs.declared.Answered.{Answered}
 use Rattle.link.specs.Answer.{asked, textOf, areasAfter}
 use Rattle.link.specs.Contract.{Answers}
@@ -29,12 +29,16 @@ allowing unchecked c =
     callOf (c .sent .frame) (c .sent .axes) (record { station = s .station; release = s .release; unchecked = unchecked; fitted = s .fitted })
     (c .sent .reply) (c .areas)
 
--- the refusals without a reply as they were before: 1 to 6, 10 and 13, then 7, "SC neither true nor '@@'", and 8
+-- the refusals without a reply as they were before: 1 to 6, 10 and 13, then 7, "SC neither true nor '@@'", and 8; and 11 behind them (02, b)
 abbrev pub silentBefore : Call → ℕ
 silentBefore c =
     let s = c .sent .settings in
     let f = c .sent .frame in
-    firstOf (early c ++ ((7 when (not (sumTrue (s .release) f || sumOff f))) ∷ (8 when (not (stationPasses (s .release) (s .station) f))) ∷ []))
+    firstOf
+    (early c
+    ++ ((7 when (not (sumTrue (s .release) f || sumOff f)))
+    ∷ (8 when (not (stationPasses (s .release) (s .station) f)))
+    ∷ countRows s f (c .areas .points) (c .areas .kept)))
 
 -- and what came back: number, reply and areas
 pub record Before : Type 0 where

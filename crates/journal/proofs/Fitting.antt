@@ -20,6 +20,8 @@ use Rattle.journal.specs.Laws.{Good}
 pub record Fit (k : Kind) (start size : ℕ) : Type 0 where
   pub first : k .first ≤ start
   pub room : placeOf k start + size ≤ sizeOf k
+  pub held-all : holds k start (size / k .unit) ≡ true
+  pub whole-units : size / k .unit * k .unit ≡ size
 
 pub fit : (k : Kind) (start size : ℕ) → entryFits k start size ≡ true → Fit k start size
 unfolding entryFits
@@ -30,7 +32,7 @@ fit k start size e =
     let units : size % k .unit ≡ 0 = eqb-true _ _ (and-left (eqb (size % k .unit) 0) some e) in
     let h : holds k start count ≡ true = and-right (leb count (k .most)) (holds k start count) (and-right (leb 1 count) most (and-right (eqb (size % k .unit) 0) some e)) in
     let w : count * k .unit ≡ size = let d = div-add-mod' size (k .unit) in omega arith in
-    record { first = within k start count h .0; room = omega (arith, room k start count h) }
+    record { first = within k start count h .0; room = omega (arith, room k start count h); held-all = h; whole-units = w }
 
 -- so many old bytes of a held run make a good entry
 pub good : (held : Held) (k : Kind) (start count : ℕ) (old : List ℕ) → Sound held → kindOf held (k .tag) ≡ k → 1 ≤ count → count ≤ k .most

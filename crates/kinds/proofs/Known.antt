@@ -1,6 +1,6 @@
 -- What is known of every kind of a sound board, and of a run of it that is held.
 use Prim.Native.Nat.{ℕ, _+_, _-_, _*_, _≤_, _<_}
-use mathlib.Core.Path.{_≡_, refl, sym, ap}
+use mathlib.Core.Path.{_≡_, refl, sym, ap, _∙_}
 use mathlib.Core.Bool.{true}
 use mathlib.Core.List.{List}
 use native.Mathlib.Omega.{arith}
@@ -58,6 +58,10 @@ own-kind h tag = ap (kindOf h) (tag-of h tag)
 pub kind-points : (h : Held) → kindOf h pointsTag ≡ pointsOf h
 unfolding kindOf
 kind-points h = refl
+
+-- and a kind that has the tag of points is that of points
+pub own-points : (h : Held) (tag : ℕ) → kindOf h tag .tag ≡ pointsTag → kindOf h tag ≡ pointsOf h
+own-points h tag e = ap (kindOf h) (sym (tag-of h tag) ∙ e) ∙ kind-points h
 
 pub kind-columns : (h : Held) → kindOf h columnsTag ≡ columnsOf
 unfolding kindOf

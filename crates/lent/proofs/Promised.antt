@@ -35,4 +35,4 @@ other-count frame records settings reply a n r e =
     ap (λ (x : Axes). refusalOf (callOf frame x settings reply a)) l
     ∙ refusal-is (callOf frame noAxes settings reply a)
     ∙ rw (le-ltb (length reply) 1024 r)
-    (past-areas (lengthsOf a) (a .journal) (a .kept) p (ownNumber noAxes settings frame (lateNumber settings frame k)) ∙ rw (not-eight (settings .fitted)))
+    (past-areas (lengthsOf a) (a .journal) (a .kept) p (ownNumber noAxes settings frame (lateNumber settings frame (a .points) (a .kept) k)) ∙ rw (not-eight (settings .fitted)))

@@ -47,7 +47,7 @@ heard-number c e =
     let k = firstOf (askedRows (heldIn (lengthsOf (c .areas))) (c .sent .settings .fitted) (c .sent .settings .release) (messageOf (c .sent .settings .release) (c .sent .frame)) (contentIn (c .sent .frame))) in
     refusal-is c
     ∙ past-silent (length (c .sent .reply)) (c .sent .frame) (c .sent .axes) (c .sent .settings) (lengthsOf (c .areas)) (c .areas .journal) (c .areas .kept)
-    (call-passed c e)
+    (c .areas .points) (call-passed c e)
     k
     ∙ sym (asked-number c)
 
@@ -56,7 +56,8 @@ pub silent-number : (c : Call) → (silentOf c ≡ 0 → ⊥) → (refusalOf c �
 silent-number c n =
     let k = firstOf (askedRows (heldIn (lengthsOf (c .areas))) (c .sent .settings .fitted) (c .sent .settings .release) (messageOf (c .sent .settings .release) (c .sent .frame)) (contentIn (c .sent .frame))) in
     let h =
-    silent-given (length (c .sent .reply)) (c .sent .frame) (c .sent .axes) (c .sent .settings) (lengthsOf (c .areas)) (c .areas .journal) (c .areas .kept) k
+    silent-given (length (c .sent .reply)) (c .sent .frame) (c .sent .axes) (c .sent .settings) (lengthsOf (c .areas)) (c .areas .journal) (c .areas .kept)
+    (c .areas .points) k
     (λ z. n (silent-is c ∙ z)) in
     (refusal-is c ∙ h .0 ∙ sym (silent-is c), rw (silent-is c) (h .1))
 

@@ -21,7 +21,7 @@ use Rattle.calls.specs.declared.Told.{Told}
 use Rattle.calls.specs.declared.Told.the-variants.{Untested}
 use Rattle.calls.specs.Calls.{Areas, Call, Outcome, callOf, lengthsOf, unanswered}
 use Rattle.calls.proofs.Parts.{equal-parts}
-use Rattle.refusals.specs.Refusals.{tooShort, lateRows, silentOf, toldAfter, toldOf, early, checkEarly, checkSilentOf, checkToldOf}
+use Rattle.refusals.specs.Refusals.{tooShort, late, silentOf, toldAfter, toldOf, early, checkEarly, checkSilentOf, checkToldOf}
 use Rattle.refusals.proofs.Rows.{passed, checked-rows, told-untested}
 use Rattle.refusals.proofs.Tested.{shaped-long, sound}
 use Rattle.orders.specs.declared.Order as order
@@ -33,7 +33,7 @@ use Rattle.link.specs.Contract.{Heard, Gives, Acts}
 use Rattle.link.proofs.Answering.{silent-answer, heard-answer, silent-number}
 use Rattle.link.proofs.Outcomes.{handingOn, gives-by}
 
-pub check-first : (c : Call) → checkSilentOf c ≡ firstOf (checkEarly c ++ lateRows (c .sent .settings) (c .sent .frame))
+pub check-first : (c : Call) → checkSilentOf c ≡ firstOf (checkEarly c ++ late c)
 unfolding checkSilentOf
 check-first c = refl
 
@@ -54,8 +54,10 @@ pub record Fits (c : Call) : Type 0 where
 pub fits : (c : Call) → checkSilentOf c ≡ 0 → Fits c
 fits c e =
     let p =
-    passed 1024 (c .sent .frame) (c .sent .axes) (c .sent .settings) (lengthsOf (c .areas)) (c .areas .journal) (c .areas .kept)
-    (sym (checked-rows (c .sent .frame) (c .sent .axes) (c .sent .settings) (lengthsOf (c .areas)) (c .areas .journal) (c .areas .kept)) ∙ sym (check-first c) ∙ e)
+    passed 1024 (c .sent .frame) (c .sent .axes) (c .sent .settings) (lengthsOf (c .areas)) (c .areas .journal) (c .areas .kept) (c .areas .points)
+    (sym (checked-rows (c .sent .frame) (c .sent .axes) (c .sent .settings) (lengthsOf (c .areas)) (c .areas .journal) (c .areas .kept) (c .areas .points))
+    ∙ sym (check-first c)
+    ∙ e)
     .0
     .early in
     record {
@@ -184,7 +186,7 @@ module _ (c : Call) (long : 1024 ≤ length (c .sent .reply)) {k : Checked} (che
       let o : actOf c ≡ doing c enough (Refused n) (k .sum) =
       long-act c enough ∙ ap (λ (x : Checked). doing c enough (x .asked) (x .sum)) (sym checked) ∙ ap (λ (a : Asked). doing c enough a (k .sum)) e in
       gives-by c _ r (handingOn (c .areas) (r .kept)) reply′ refl o (f .0) (f .1) (f .3)
-      (equal-parts refl refl refl refl refl (ap (λ (x : Kept). x .used) (f .2)))
+      (equal-parts refl refl refl refl refl (ap (λ (x : Kept). x .used) (f .2)) (ap (λ (x : Kept). x .effective) (f .2)))
       g
 
   -- the check answered an order: the frame is heard, and orders that

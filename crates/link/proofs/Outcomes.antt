@@ -15,26 +15,28 @@ use Rattle.kinds.specs.declared.Firsts.{Firsts}
 use Rattle.kinds.specs.Kinds.{pointsTag, columnsTag, integersTag, flagsTag, pointsOf, columnsOf, integersOf, flagsOf, kindOf, runOf, put}
 use Rattle.kinds.proofs.Known.{each-kind, kind-points, kind-columns, kind-integers, kind-flags, tag-of, few}
 use Rattle.journal.specs.Journal.{encodes, entriesIn, added, areaOf, puts, entryFor}
+use Rattle.points.specs.Point.{effectiveIn}
 use Rattle.messages.specs.declared.Asked.{Asked}
 use Rattle.messages.specs.declared.Asked.the-variants as asks
 use Rattle.messages.specs.Asked.{numberGiven}
 use Rattle.writes.specs.Writes.{Written}
 use Rattle.calls.specs.declared.Kept.{Kept}
 use Rattle.calls.specs.declared.Told.{Told}
-use Rattle.calls.specs.Calls.{Areas, Call, Outcome, areasOf, areaIn, written}
+use Rattle.calls.specs.Calls.{Areas, Call, Outcome, areasOf, areaIn, countAfter, written}
 use Rattle.calls.proofs.Parts.{equal-parts}
-use Rattle.refusals.specs.Refusals.{journalFits, silentOf, toldOf}
+use Rattle.refusals.specs.Refusals.{countFits, journalFits, silentOf, toldOf}
 use Rattle.orders.specs.declared.Order.{Order}
 use Rattle.orders.specs.declared.Done.{Done}
 use Rattle.orders.specs.Orders.{rest, writes, newBytes, saidBy}
-use Rattle.orders.specs.Contract.{kindIn, Ordered, Says, Stores}
+use Rattle.orders.specs.Contract.{kindIn, Ordered, Says, Stores, countLeft}
 use Rattle.orders.proofs.Judging.{writable}
 use Rattle.orders.proofs.Handling.{content, said-same}
+use Rattle.orders.proofs.Counting.{count-same}
 use Rattle.link.specs.declared.Answered.{Answered}
 use Rattle.link.specs.Answer.{held, asked, textOf, areasAfter, answerOf}
 use Rattle.link.specs.Contract.{Heard, accepted, Gives, Answers, Performs}
 use Rattle.link.proofs.Answering.{heard-answer}
-use Rattle.link.proofs.Carrying.{Fine, fine, ordered}
+use Rattle.link.proofs.Carrying.{Fine, fine, counts, ordered}
 
 -- areas with other kept numbers
 abbrev pub handingOn : Areas → Kept → Areas
@@ -70,7 +72,8 @@ replacing tag area′ a journal′ kept′ =
 
 -- a write of a run of any kind, as it stands in the areas
 module _ (a : Areas) (h : Held) (tag start count : ℕ) (new area′ journal′ : List ℕ) (kept′ : Kept)
-    (w : Written h (kindOf h tag) start count new (areaIn tag a) area′ (a .journal) journal′ (a .kept .used) (kept′ .used)) where
+    (w : Written h (kindOf h tag) start count new (areaIn tag a) area′ (a .journal) journal′ (a .kept .used) (kept′ .used))
+    (v : kept′ .effective ≡ cond (eqb tag pointsTag) (effectiveIn (h .points) area′) (a .kept .effective)) where
   -- the area of a kind: the bytes are put in where it is the tag's
   own : (k : Kind) (area : List ℕ) → (tag ≡ k .tag → (kindOf h tag ≡ k) × (areaIn tag a ≡ area)) → cond (eqb tag (k .tag)) area′ area ≡ puts k (entryFor tag start new) area
   unfolding puts
@@ -83,6 +86,16 @@ module _ (a : Areas) (h : Held) (tag start count : ℕ) (new area′ journal′ 
   in-area : {k : Kind} → kindOf h (k .tag) ≡ k → tag ≡ k .tag → (kindOf h tag ≡ k) × (areaIn tag a ≡ areaIn (k .tag) a)
   in-area e t = (ap (kindOf h) t ∙ e, ap (λ (x : ℕ). areaIn x a) t)
 
+  -- the count of the slots, where they are the tag's
+  own-count : kept′ .effective ≡ countAfter h (entryFor tag start new) a
+  own-count = v ∙ go (eqb tag pointsTag) (own (pointsOf h) (a .points) (in-area (kind-points h)))
+    where
+      go : (b : Bool) → cond b area′ (a .points) ≡ puts (pointsOf h) (entryFor tag start new) (a .points)
+          → cond b (effectiveIn (h .points) area′) (a .kept .effective)
+          ≡ cond b (effectiveIn (h .points) (puts (pointsOf h) (entryFor tag start new) (a .points))) (a .kept .effective)
+      go true e = ap (effectiveIn (h .points)) e
+      go false e = refl
+
   pub written-so : replacing tag area′ a journal′ kept′ ≡ written h tag start count new a
   written-so =
       equal-parts (own (pointsOf h) (a .points) (in-area (kind-points h))) (own columnsOf (a .columns) (in-area (kind-columns h)))
@@ -90,6 +103,7 @@ module _ (a : Areas) (h : Held) (tag start count : ℕ) (new area′ journal′ 
       (own (flagsOf h) (a .flags) (in-area (kind-flags h)))
       (w .journalled .bytes ∙ ap (λ (t : ℕ). areaOf (length (a .journal)) (added (length (a .journal)) (entriesIn h 0 (take (a .kept .used) (a .journal))) (entryFor t start (runOf (kindOf h tag) start count (areaIn tag a))))) (tag-of h tag))
       (w .journalled .used ∙ ap (λ (t : ℕ). length (encodes (added (length (a .journal)) (entriesIn h 0 (take (a .kept .used) (a .journal))) (entryFor t start (runOf (kindOf h tag) start count (areaIn tag a)))))) (tag-of h tag))
+      own-count
 
 -- of a tag that none of the others is, flags are held or nothing
 pub last-kind : (h : Held) (tag : ℕ) → (tag ≡ pointsTag → ⊥) → (tag ≡ columnsTag → ⊥) → (tag ≡ integersTag → ⊥) → 1 ≤ kindOf h tag .held → tag ≡ flagsTag
@@ -111,17 +125,24 @@ module _ {c : Call} {o : Order} (e : Heard c o) (tag : ℕ) (whole : replacing t
 
   pub can-carry : Ordered o (c .sent .frame) (areaIn tag (c .areas)) × (1024 ≤ length (c .sent .reply))
       × (journalFits (o .held) (c .areas .journal) (c .areas .kept .used) ≡ true)
-  can-carry = (can, board .reply-long, rw (e .held-is) (board .areas .journal-fits))
+      × (countFits (o .message .does) (areaIn tag (c .areas)) (c .areas .kept .effective) ≡ true)
+  can-carry = (can, board .reply-long, rw (e .held-is) (board .areas .journal-fits), count-same can (c .areas .kept .effective) slots (counts c o e))
+    where
+      slots : o .message .tag ≡ pointsTag → areaIn tag (c .areas) ≡ c .areas .points
+      slots t =
+          let z : 1 ≤ kindOf (held c) (o .message .tag) .held = rw (ap (kindOf (held c)) t ∙ kind-points (held c)) (board .sound-held .some-points) in
+          of-kind z ∙ ap (λ (x : ℕ). areaIn x (c .areas)) t
 
-  module _ {r : Done} {area′ journal′ reply′ : List ℕ} (p : Says o (c .sent) (areaIn tag (c .areas)) (r .length) reply′)
-      (s : Stores o (c .sent .frame) (areaIn tag (c .areas)) area′ (c .areas .journal) journal′ (c .areas .kept .used) (r .kept .used)) where
+  module _ {r : Done} {area′ journal′ reply′ : List ℕ} (p : Says o (c .sent) (c .areas .kept) (areaIn tag (c .areas)) (r .length) reply′)
+      (s : Stores o (c .sent .frame) (areaIn tag (c .areas)) area′ (c .areas .journal) journal′ (c .areas .kept .used) (r .kept .used))
+      (v : r .kept .effective ≡ countLeft o area′ (c .areas .kept .effective)) where
     abbrev saying : Held → List ℕ → List ℕ
-    saying h area = saidBy (o .message .does) h (c .sent) (o .message) (o .start) (o .count) area
+    saying h area = saidBy (o .message .does) h (c .sent) (c .areas .kept) (o .message) (o .start) (o .count) area
 
     said : saying (o .held) (areaIn tag (c .areas)) ≡ saying (held c) (areaIn (o .message .tag) (c .areas))
     said =
         ap (λ (h : Held). saying h (areaIn tag (c .areas))) (e .held-is)
-        ∙ rw (e .held-is) at (said-same can {own = areaIn (o .message .tag) (c .areas)} (c .sent) (rw (e .held-is) of-kind))
+        ∙ rw (e .held-is) at (said-same can {own = areaIn (o .message .tag) (c .areas)} (c .sent) (c .areas .kept) (rw (e .held-is) of-kind))
 
     left : (b : Bool) → writes (o .message .does) ≡ b
         → replacing tag area′ (c .areas) journal′ (r .kept)
@@ -131,7 +152,11 @@ module _ {c : Call} {o : Order} (e : Heard c o) (tag : ℕ) (whole : replacing t
         let z : 1 ≤ kindOf (held c) (o .message .tag) .held = rw (sym (e .held-is)) (omega (arith, few (kindIn o) (o .start) (o .count) (n .held-all), n .some)) in
         ap (λ (t : ℕ). replacing t area′ (c .areas) journal′ (r .kept)) (sym (w z))
         ∙ written-so (c .areas) (held c) (o .message .tag) (o .start) (o .count) _ area′ journal′ (r .kept) (rw (e .held-is, of-kind z) at (s .wrote f))
-    left false f = let q = s .stayed f in (λ i. replacing tag (q .0 i) (c .areas) (q .1 i) (record { used = q .2 i })) ∙ whole
+        (rw (f, e .held-is) at v)
+    left false f =
+        let q = s .stayed f in
+        let n = rw f at v in
+        (λ i. replacing tag (q .0 i) (c .areas) (q .1 i) (record { used = q .2 i; effective = n i })) ∙ whole
 
     pub performed : Performs c r (replacing tag area′ (c .areas) journal′ (r .kept)) reply′
     performed =

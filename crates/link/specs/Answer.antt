@@ -1,4 +1,4 @@
--- Document 01, "Each message", "Refusal numbers" and "Journal", and document 02, requests a, f and l: what an answer leaves.
+-- Document 01, "Each message", "Refusal numbers" and "Journal", and document 02, requests a, b, f and l: what an answer leaves.
 use Prim.Native.Nat.{ℕ}
 use mathlib.Core.Bool.{cond}
 use mathlib.Core.List.{List}
@@ -24,7 +24,8 @@ asked c = askedOf (held c) (c .sent .settings .fitted) (c .sent .settings .relea
 -- the reply: from 101 on the "error" reply, "10 reply bytes written, nothing else"
 abbrev pub textOf : Call → Asked → List ℕ
 textOf c (Refused number) = errorOf (c .sent .settings .station) number
-textOf c (Order m start count) = replyOf normal (c .sent .settings .station) (saidBy (m .does) (held c) (c .sent) m start count (areaIn (m .tag) (c .areas)))
+textOf c (Order m start count) =
+    replyOf normal (c .sent .settings .station) (saidBy (m .does) (held c) (c .sent) (c .areas .kept) m start count (areaIn (m .tag) (c .areas)))
 
 -- the areas after a message's order: a write's bytes stored, with its entry, else as they were
 abbrev pub storedBy : Held → Message → ℕ → ℕ → List ℕ → Areas → Areas

@@ -1,4 +1,4 @@
-// The link: every frame answered, at once or by a look before (document 01, and document 02, requests a, c, f, g and l).
+// The link: every frame answered, at once or by a look before (document 01, and document 02, requests a, b, c, f, g and l).
 use axes::Axes;
 use calls::Kept;
 use calls::Settings;
@@ -127,7 +127,7 @@ pub fn check(
         flags: flags.len(),
         firsts,
     };
-    let hearing = silent(frame, axes, settings, lengths, journal, kept);
+    let hearing = silent(frame, axes, settings, lengths, points, journal, kept);
     let number = hearing.number;
     let sum = hearing.sum;
     if number != 0 {

@@ -26,6 +26,7 @@ use Rattle.table.specs.Table.{fieldsOf, restIn, followsRight, anyBytes, Narrow}
 use Rattle.messages.proofs.Shapes.{Shape}
 use Rattle.heads.specs.Laws.{Replied}
 use Rattle.writes.specs.Writes.{Ready, Written}
+use Rattle.calls.specs.declared.Kept.{Kept}
 use Rattle.calls.specs.Calls.{Sent}
 use Rattle.refusals.specs.Refusals.{journalFits}
 use Rattle.refusals.proofs.Tested.{journal-fits}
@@ -79,10 +80,6 @@ module _ {x : Order} {frame area : List ℕ} (o : Ordered x frame area) where
   -- 200H
   pub same-needs : {t : List ℕ} → m .does ≡ SayBack → t ≡ restIn m (contentIn frame) → length t ≡ 10
   same-needs d e = ap length e ∙ eqb-true _ _ (follows-so TenBytes (shape-of d .1))
-
-  -- 208H
-  pub count-needs : m .does ≡ CountPoints → (length area ≡ 40 * h .points) × (h .points ≤ 1500)
-  count-needs d = (points-long (shape-of d), o .sound .points)
 
   -- 209H
   module _ (d : m .does ≡ ListPoints) where
@@ -149,21 +146,21 @@ module _ {x : Order} {frame area : List ℕ} (o : Ordered x frame area) where
     one-byte q = let b = inverse 2 .bound t two-digits in omega (arith, b, q)
 
   -- what the message says, by what it does
-  pub says : (s : Sent) {reply reply′ : List ℕ} {long station : ℕ} {t : List ℕ} (a : Action) → m .does ≡ a → t ≡ saidBy a h s m start count area
-      → Replied reply reply′ long station t → Replied reply reply′ long station (saidBy (m .does) h s m start count area)
-  says s {reply} {reply′} {long} {station} a d e p =
-      subst (λ (x : List ℕ). Replied reply reply′ long station x) (e ∙ ap (λ (x : Action). saidBy x h s m start count area) (sym d)) p
+  pub says : (s : Sent) (kept : Kept) {reply reply′ : List ℕ} {long station : ℕ} {t : List ℕ} (a : Action) → m .does ≡ a → t ≡ saidBy a h s kept m start count area
+      → Replied reply reply′ long station t → Replied reply reply′ long station (saidBy (m .does) h s kept m start count area)
+  says s kept {reply} {reply′} {long} {station} a d e p =
+      subst (λ (x : List ℕ). Replied reply reply′ long station x) (e ∙ ap (λ (x : Action). saidBy x h s kept m start count area) (sym d)) p
 
   -- what is said asks for the area of the message's kind alone
-  pub said-same : {own : List ℕ} (s : Sent) → (1 ≤ kindOf h (m .tag) .held → area ≡ own) → saidBy (m .does) h s m start count area ≡ saidBy (m .does) h s m start count own
-  said-same {own} s e = go (m .does) (content .shape)
+  pub said-same : {own : List ℕ} (s : Sent) (kept : Kept) → (1 ≤ kindOf h (m .tag) .held → area ≡ own) → saidBy (m .does) h s kept m start count area ≡ saidBy (m .does) h s kept m start count own
+  said-same {own} s kept e = go (m .does) (content .shape)
     where
-      same : (a : Action) → 1 ≤ kindOf h (m .tag) .held → saidBy a h s m start count area ≡ saidBy a h s m start count own
-      same a z = ap (saidBy a h s m start count) (e z)
+      same : (a : Action) → 1 ≤ kindOf h (m .tag) .held → saidBy a h s kept m start count area ≡ saidBy a h s kept m start count own
+      same a z = ap (saidBy a h s kept m start count) (e z)
 
-      go : (a : Action) → Shape a m → saidBy a h s m start count area ≡ saidBy a h s m start count own
+      go : (a : Action) → Shape a m → saidBy a h s kept m start count area ≡ saidBy a h s kept m start count own
       go SayBack x = refl
-      go CountPoints x = same CountPoints (points-held x)
+      go CountPoints x = refl
       go ListPoints x = same ListPoints (points-held (x .0))
       go ReadRun x = same ReadRun (run-held (x .1) (omega (arith, x .2)))
       go AxisStatus x = refl

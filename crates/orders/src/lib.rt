@@ -1,4 +1,4 @@
-// What a message orders, carried out in the area of its kind (document 01, "Each message"; document 02, a).
+// What a message orders, carried out in the area of its kind (document 01, "Each message"; document 02, a and b).
 use axes::Axes;
 use calls::Kept;
 use calls::Settings;
@@ -11,6 +11,7 @@ use queries::reply_axes;
 use queries::reply_count;
 use queries::reply_list;
 use queries::reply_same;
+use slots::count_run;
 use table::Action;
 use table::Message;
 use writes::change;
@@ -22,10 +23,12 @@ ghost use mathlib.Core.Bool.{true};
 ghost use Prim.Native.Nat.{_≤_};
 ghost use lib.ListN.{length};
 ghost use Rattle.frames.specs.Frame.{contentIn};
+ghost use Rattle.kinds.specs.Kinds.{Sound};
 ghost use Rattle.table.specs.Table.{fieldsOf, restIn, Narrow};
 ghost use Rattle.calls.specs.Calls.{sentOf};
-ghost use Rattle.refusals.specs.Refusals.{journalFits};
-ghost use Rattle.orders.specs.Contract.{Ordered, Says, Stores};
+ghost use Rattle.refusals.specs.Refusals.{countFits, journalFits};
+ghost use Rattle.orders.specs.Orders.{writes};
+ghost use Rattle.orders.specs.Contract.{Ordered, Says, Stores, Lies, countNamed, countLeft};
 
 // What a frame orders of a board that holds so much: a message, with its start number and count.
 pub struct Order {
@@ -56,12 +59,13 @@ fn say(
     order: Order,
     frame: &[u8],
     area: &[u8],
+    kept: Kept,
     axes: Axes,
     settings: Settings,
     reply: &mut [u8],
 ) -> usize
     requires { ⌜ Ordered order (now frame) (now area) × (1024 ≤ length (now reply)) ⌝ }
-    ensures { λ r. ⌜ Says order (sentOf (now (frame .entry)) axes settings (now (reply .entry))) (now (area .entry)) r (now (reply .exit)) ⌝ }
+    ensures { λ r. ⌜ Says order (sentOf (now (frame .entry)) axes settings (now (reply .entry))) kept (now (area .entry)) r (now (reply .exit)) ⌝ }
 {
     let m = order.message;
     let held = order.held;
@@ -73,7 +77,7 @@ fn say(
     let does = m.does;
     match does {
         Action::SayBack => reply_same(reply, station, m, rest),
-        Action::CountPoints => reply_count(reply, station, m, area, held.points),
+        Action::CountPoints => reply_count(reply, station, m, kept.effective),
         Action::ListPoints => {
             let at = k.place(start);
             reply_list(reply, station, m, &area[at..], start, count)
@@ -118,7 +122,40 @@ fn store(order: Order, frame: &[u8], area: &mut [u8], journal: &mut [u8], used: 
     }
 }
 
-// An order carried out: what the message says, then what it stores.
+// The messages that write.
+fn is_write(does: Action) -> bool
+    ensures { λ r. ⌜ r ≡ writes does ⌝ }
+{
+    match does {
+        Action::SayBack => false,
+        Action::CountPoints => false,
+        Action::ListPoints => false,
+        Action::ReadRun => false,
+        Action::AxisStatus => false,
+        Action::WritePoints => true,
+        Action::ClearRun => true,
+        Action::ChangeRun => true,
+        Action::ShowFlags => false,
+        Action::SetFlag => true,
+    }
+}
+
+// How many effective slots a write names: those of its run as they stand; a query, or a write of another kind, names none.
+fn count_named(order: Order, area: &[u8]) -> usize
+    requires { ⌜ Sound (order .held) × Lies order (now area) ⌝ }
+    ensures { λ r. ⌜ r ≡ countNamed order (now (area .entry)) ⌝ }
+{
+    let m = order.message;
+    let held = order.held;
+    let does = m.does;
+    if !is_write(does) {
+        return 0;
+    }
+    count_run(area, held.kind(m.tag), order.start, order.count)
+}
+
+// An order carried out: what the message says, then what it stores; the count that is kept is without the slots that were named, and with them as they
+// are then.
 pub fn carry_out(
     order: Order,
     frame: &[u8],
@@ -129,15 +166,22 @@ pub fn carry_out(
     settings: Settings,
     reply: &mut [u8],
 ) -> Done
-    requires { ⌜ Ordered order (now frame) (now area) × (1024 ≤ length (now reply)) × (journalFits (order .held) (now journal) (kept .used) ≡ true) ⌝ }
-    ensures { λ r. ⌜ Says order (sentOf (now (frame .entry)) axes settings (now (reply .entry))) (now (area .entry)) (r .length) (now (reply .exit)) ⌝ }
+    requires { ⌜ Ordered order (now frame) (now area) × (1024 ≤ length (now reply)) × (journalFits (order .held) (now journal) (kept .used) ≡ true)
+        × (countFits (order .message .does) (now area) (kept .effective) ≡ true) ⌝ }
+    ensures { λ r. ⌜ Says order (sentOf (now (frame .entry)) axes settings (now (reply .entry))) kept (now (area .entry)) (r .length) (now (reply .exit)) ⌝ }
     ensures { λ r. ⌜ Stores order (now (frame .entry)) (now (area .entry)) (now (area .exit))
         (now (journal .entry)) (now (journal .exit)) (kept .used) (r .kept .used) ⌝ }
+    ensures { λ r. ⌜ r .kept .effective ≡ countLeft order (now (area .exit)) (kept .effective) ⌝ }
 {
-    let length = say(order, frame, area, axes, settings, reply);
+    let length = say(order, frame, area, kept, axes, settings, reply);
+    let before = count_named(order, area);
     let used = store(order, frame, area, journal, kept.used);
+    let after = count_named(order, area);
     Done {
         length,
-        kept: Kept { used },
+        kept: Kept {
+            used,
+            effective: kept.effective - before + after,
+        },
     }
 }

@@ -10,7 +10,6 @@ use Rattle.digits.specs.Laid.{laid}
 use Rattle.digits.proofs.Laid.{laid-on}
 use Rattle.axes.specs.declared.AxisRecord.{AxisRecord}
 use Rattle.points.specs.Axes.{axesOf}
-use Rattle.points.specs.Point.{effectiveIn}
 use Rattle.listing.specs.Listing.{listed, joined}
 use Rattle.table.specs.declared.Message.{Message}
 use Rattle.heads.specs.Heads.{idOf}
@@ -28,9 +27,9 @@ filled d s t at next e h =
     (simp append-assoc)
 
 -- 208H: the ID, then a number
-pub count-laid : (d r1 r2 points : List ℕ) (m : Message) (n k : ℕ) → 3 ≤ length d → k ≡ effectiveIn n points → r1 ≡ laid d 3 (idOf m) → r2 ≡ laid r1 6 (digitsOf 3 k)
-    → r2 ≡ laid d 3 (countText m n points)
-count-laid d r1 r2 points m n k h q e f = behind d r1 r2 (digitsOf 3 (effectiveIn n points)) m h e (f ∙ rw q)
+pub count-laid : (d r1 r2 : List ℕ) (m : Message) (k : ℕ) → 3 ≤ length d → r1 ≡ laid d 3 (idOf m) → r2 ≡ laid r1 6 (digitsOf 3 k)
+    → r2 ≡ laid d 3 (countText m k)
+count-laid d r1 r2 m k h e f = behind d r1 r2 (digitsOf 3 k) m h e f
 
 -- 212H: the ID, the pattern, then what each axis is
 pub axes-laid : (d r1 r2 r3 : List ℕ) (m : Message) (pattern : ℕ) (records : List AxisRecord) → 3 ≤ length d → r1 ≡ laid d 3 (idOf m) → r2 ≡ laid r1 6 (digitsOf 2 pattern)

@@ -8,7 +8,6 @@ use Rattle.digits.specs.Digits.{digitsOf}
 use Rattle.axes.specs.declared.AxisRecord.{AxisRecord}
 use Rattle.axes.specs.Records.{zeroRecord}
 use Rattle.points.specs.Axes.{axesOf}
-use Rattle.points.specs.Point.{effectiveIn}
 use Rattle.listing.specs.Listing.{listed, joined}
 use Rattle.table.specs.declared.Message.{Message}
 use Rattle.heads.specs.Heads.{idOf}
@@ -17,9 +16,9 @@ use Rattle.heads.specs.Heads.{idOf}
 abbrev pub sameText : Message → List ℕ → List ℕ
 sameText m content = idOf m ++ content
 
--- "208H counts slots with a non-zero pattern": its number in three digits (4-3-4)
-abbrev pub countText : Message → ℕ → List ℕ → List ℕ
-countText m n points = idOf m ++ digitsOf 3 (effectiveIn n points)
+-- 208H: "Only 208H trusts the kept count" (02, b), in three digits (4-3-4)
+abbrev pub countText : Message → ℕ → List ℕ
+countText m effective = idOf m ++ digitsOf 3 effective
 
 -- "within 1,024 bytes": thirteen of them are header, station, ID, count, SC, CR and LF; "and its count is the number listed"
 abbrev pub listText : Message → ℕ → ℕ → List ℕ → List ℕ

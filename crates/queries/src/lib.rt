@@ -5,7 +5,6 @@ use digits::put_number;
 use frames::replies::close_reply;
 use listing::put_listings;
 use points::patterns::ones;
-use slots::count_effective;
 use table::Message;
 ghost use mathlib.Core.Path.{_≡_};
 ghost use Prim.Native.Nat.{_+_, _*_, _≤_};
@@ -25,13 +24,13 @@ pub fn reply_same(reply: &mut [u8], station: u8, m: Message, content: &[u8]) -> 
     close_reply(reply, station, 13)
 }
 
-// 208H.
-pub fn reply_count(reply: &mut [u8], station: u8, m: Message, points: &[u8], n: usize) -> usize
-    requires { ⌜ (1024 ≤ length (now reply)) × (length (now points) ≡ 40 * n) × (n ≤ 1500) ⌝ }
-    ensures { λ r. ⌜ Replied (now (reply .entry)) (now (reply .exit)) r station (countText m n (now (points .entry))) ⌝ }
+// 208H: the count that is kept.
+pub fn reply_count(reply: &mut [u8], station: u8, m: Message, effective: usize) -> usize
+    requires { ⌜ 1024 ≤ length (now reply) ⌝ }
+    ensures { λ r. ⌜ Replied (now (reply .entry)) (now (reply .exit)) r station (countText m effective) ⌝ }
 {
     put_number(reply, 3, 3, m.id as u64);
-    put_number(reply, 6, 3, count_effective(points, n) as u64);
+    put_number(reply, 6, 3, effective as u64);
     close_reply(reply, station, 6)
 }
 

@@ -22,7 +22,7 @@ use Rattle.kinds.specs.declared.Lengths.{Lengths}
 use Rattle.kinds.specs.Kinds.{heldIn}
 use Rattle.calls.specs.Calls.{Call, lengthsOf}
 use Rattle.refusals.proofs.Tested.{shaped-long}
-use Rattle.refusals.specs.Refusals.{pointsFit, variablesFit, journalFits, axesFit, releaseFits, areaRows, checkRows, lateRows, tooShort, silentOf, early, toldAfter, toldOf, refusalOf, backRows}
+use Rattle.refusals.specs.Refusals.{pointsFit, variablesFit, journalFits, axesFit, releaseFits, countTrue, miscounted, areaRows, checkRows, lateRows, countRows, tooShort, silentOf, early, toldAfter, toldOf, refusalOf, backRows}
 
 -- the areas' four, in the order tested, and what comes behind them
 abbrev pub four : Bool → Bool → Bool → Bool → ℕ → ℕ
@@ -52,9 +52,13 @@ module _ (lengths : Lengths) (journal : List ℕ) (kept : Kept) where
   unfolding areaRows
   area-rows = refl
 
-  pub back-rows : firstOf (backRows lengths journal kept) ≡ areaNumber (cond (eqb (kept .used) 0) 9 0)
+  -- the count, and then whether there is an entry
+  abbrev pub ownBack : List ℕ → ℕ
+  ownBack points = cond (not (countTrue points (kept .effective))) 11 (cond (eqb (kept .used) 0) 9 0)
+
+  pub back-rows : (points : List ℕ) → firstOf (backRows lengths points journal kept) ≡ areaNumber (ownBack points)
   unfolding backRows areaRows
-  back-rows = refl
+  back-rows points = refl
 
   -- what comes behind them is looked at just where none of them is given
   pub area-given : (k : ℕ) → (firstOf (areaRows lengths journal kept) ≡ 0 → ⊥) → firstOf (areaRows lengths journal kept) ≡ areaNumber k
@@ -92,6 +96,10 @@ gates {f} {g} (inl p) (inl q) = inl (λ k. p (g k) ∙ q k)
 gates {f} {g} (inl p) (inr q) = inr (λ k. p (g k) ∙ q .0 k ∙ sym (p (g 0)), rw (p (g 0)) (q .1), rw (p (g 0)) (q .2))
 gates {f} {g} (inr p) q = inr (λ k. p .0 (g k) ∙ sym (p .0 (g 0)), rw (p .0 (g 0)) (p .1), rw (p .0 (g 0)) (p .2))
 
+gate-open : {f : ℕ → ℕ} → Gate f → f 0 ≡ 0 → (k : ℕ) → f k ≡ k
+gate-open (inl p) e = p
+gate-open (inr p) e = absurd (omega (arith, e, p .1))
+
 gate-given : {f : ℕ → ℕ} → Gate f → (k : ℕ) → (f 0 ≡ 0 → ⊥) → (f k ≡ f 0) × (f 0 < 101)
 gate-given (inl p) k h = absurd (h (p 0))
 gate-given (inr p) k h = (p .0 k, p .2)
@@ -106,31 +114,43 @@ abbrev pub forbidden : Settings → List ℕ → Bool
 forbidden settings frame = isOff (sumSaid (settings .release) frame) && not (settings .unchecked)
 
 -- the sum and the station
-module _ (settings : Settings) (frame : List ℕ) where
-  abbrev pub lateNumber : ℕ → ℕ
-  lateNumber k =
-      cond (forbidden settings frame) 12
-      (cond (isWrong (sumSaid (settings .release) frame)) 7 (cond (not (stationPasses (settings .release) (settings .station) frame)) 8 k))
+abbrev pub sumNumber : Settings → List ℕ → ℕ → ℕ
+sumNumber settings frame k =
+    cond (forbidden settings frame) 12
+    (cond (isWrong (sumSaid (settings .release) frame)) 7 (cond (not (stationPasses (settings .release) (settings .station) frame)) 8 k))
 
-  pub late-rows : firstOf (lateRows settings frame) ≡ lateNumber 0
-  unfolding lateRows
+sum-gate : (settings : Settings) (frame : List ℕ) → Gate (sumNumber settings frame)
+sum-gate settings frame =
+    go (forbidden settings frame) (isWrong (sumSaid (settings .release) frame)) (not (stationPasses (settings .release) (settings .station) frame))
+  where
+    go : (t u v : Bool) → Gate (λ k. cond t 12 (cond u 7 (cond v 8 k)))
+    go true u v = inr (λ k. refl, omega arith, omega arith)
+    go false true v = inr (λ k. refl, omega arith, omega arith)
+    go false false true = inr (λ k. refl, omega arith, omega arith)
+    go false false false = inl (λ k. refl)
+
+-- and the count
+module _ (settings : Settings) (frame points : List ℕ) (kept : Kept) where
+  abbrev pub wrongCount : Bool
+  wrongCount = miscounted (messageOf (settings .release) frame) points (kept .effective)
+
+  abbrev pub lateNumber : ℕ → ℕ
+  lateNumber k = sumNumber settings frame (cond wrongCount 11 k)
+
+  pub late-rows : firstOf (lateRows settings frame ++ countRows settings frame points kept) ≡ lateNumber 0
+  unfolding lateRows countRows
   late-rows = refl
 
   late-gate : Gate lateNumber
-  late-gate = go (forbidden settings frame) (isWrong (sumSaid (settings .release) frame)) (not (stationPasses (settings .release) (settings .station) frame))
+  late-gate = gates (sum-gate settings frame) (go wrongCount)
     where
-      go : (t u v : Bool) → Gate (λ k. cond t 12 (cond u 7 (cond v 8 k)))
-      go true u v = inr (λ k. refl, omega arith, omega arith)
-      go false true v = inr (λ k. refl, omega arith, omega arith)
-      go false false true = inr (λ k. refl, omega arith, omega arith)
-      go false false false = inl (λ k. refl)
+      go : (w : Bool) → Gate (λ k. cond w 11 k)
+      go true = inr (λ k. refl, omega arith, omega arith)
+      go false = inl (λ k. refl)
 
 module _ (reply : ℕ) (frame : List ℕ) (axes : Axes) (settings : Settings) (lengths : Lengths) (journal : List ℕ) (kept : Kept) where
   abbrev pub earlyNumber : ℕ → ℕ
   earlyNumber k = cond (ltb reply 1024) 1 (areaNumber lengths journal kept (ownNumber axes settings frame k))
-
-  abbrev pub silentNumber : ℕ → ℕ
-  silentNumber k = earlyNumber (lateNumber settings frame k)
 
   pub early-rows : firstOf ((1 when (tooShort reply)) ∷ checkRows frame axes settings lengths journal kept) ≡ earlyNumber 0
   unfolding checkRows areaRows
@@ -147,16 +167,6 @@ module _ (reply : ℕ) (frame : List ℕ) (axes : Axes) (settings : Settings) (l
   pub past-early : EarlyPassed → (k : ℕ) → earlyNumber k ≡ k
   past-early p k = rw (p .reply-long, past-areas lengths journal kept (p .areas) (ownNumber axes settings frame k), p .axes-fit, p .release-fits, p .shape)
 
-  -- no refusal without a reply
-  pub record Passed : Type 0 where
-    pub early : EarlyPassed
-    pub allowed : forbidden settings frame ≡ false
-    pub sum : isWrong (sumSaid (settings .release) frame) ≡ false
-    pub station : stationPasses (settings .release) (settings .station) frame ≡ true
-
-  pub past-silent : Passed → (k : ℕ) → silentNumber k ≡ k
-  past-silent p k = past-early (p .early) (lateNumber settings frame k) ∙ rw (p .allowed, p .sum, p .station)
-
   one-passed : (b : Bool) (n k : ℕ) → 1 ≤ n → cond b n k ≡ 0 → (b ≡ false) × (k ≡ 0)
   one-passed true n k h e = absurd (omega arith)
   one-passed false n k h e = (refl, e)
@@ -170,16 +180,6 @@ module _ (reply : ℕ) (frame : List ℕ) (axes : Axes) (settings : Settings) (l
       let r = one-passed (not (releaseFits (settings .release))) 13 s (omega arith) (c .1) in
       let d = one-passed (not (shaped frame)) 6 k (omega arith) (r .1) in
       (record { reply-long = a .0; areas = b .0; axes-fit = was-not (c .0); release-fits = was-not (r .0); shape = was-not (d .0) }, d .1)
-
-  pub passed : {k : ℕ} → silentNumber k ≡ 0 → Passed × (k ≡ 0)
-  passed {k} e =
-      let p = early-passed e in
-      let wrong = isWrong (sumSaid (settings .release) frame) in
-      let other = not (stationPasses (settings .release) (settings .station) frame) in
-      let a = one-passed (forbidden settings frame) 12 (cond wrong 7 (cond other 8 k)) (omega arith) (p .1) in
-      let b = one-passed wrong 7 (cond other 8 k) (omega arith) (a .1) in
-      let c = one-passed other 8 k (omega arith) (b .1) in
-      (record { early = p .0; allowed = a .0; sum = b .0; station = was-not (c .0) }, c .1)
 
   early-gate : Gate earlyNumber
   early-gate =
@@ -204,9 +204,45 @@ module _ (reply : ℕ) (frame : List ℕ) (axes : Axes) (settings : Settings) (l
   pub early-given : (k : ℕ) → (earlyNumber 0 ≡ 0 → ⊥) → (earlyNumber k ≡ earlyNumber 0) × (earlyNumber 0 < 101)
   early-given k h = gate-given early-gate k h
 
-  -- and so of all that come without a reply
-  pub silent-given : (k : ℕ) → (silentNumber 0 ≡ 0 → ⊥) → (silentNumber k ≡ silentNumber 0) × (silentNumber 0 < 101)
-  silent-given k h = gate-given (gates early-gate (late-gate settings frame)) k h
+  -- up to 8: where none refuses, what comes behind is the number, and where one does it is not looked at
+  abbrev pub eightNumber : ℕ → ℕ
+  eightNumber k = earlyNumber (sumNumber settings frame k)
+
+  pub eight-open : eightNumber 0 ≡ 0 → (k : ℕ) → eightNumber k ≡ k
+  eight-open e = gate-open (gates early-gate (sum-gate settings frame)) e
+
+  pub eight-given : (k : ℕ) → (eightNumber 0 ≡ 0 → ⊥) → eightNumber k ≡ eightNumber 0
+  eight-given k h = gate-given (gates early-gate (sum-gate settings frame)) k h .0
+
+  -- all that come without a reply, over the slots
+  module _ (points : List ℕ) where
+    abbrev pub silentNumber : ℕ → ℕ
+    silentNumber k = earlyNumber (lateNumber settings frame points kept k)
+
+    pub record Passed : Type 0 where
+      pub early : EarlyPassed
+      pub allowed : forbidden settings frame ≡ false
+      pub sum : isWrong (sumSaid (settings .release) frame) ≡ false
+      pub station : stationPasses (settings .release) (settings .station) frame ≡ true
+      pub count : wrongCount settings frame points kept ≡ false
+
+    pub past-silent : Passed → (k : ℕ) → silentNumber k ≡ k
+    past-silent p k = past-early (p .early) (lateNumber settings frame points kept k) ∙ rw (p .allowed, p .sum, p .station, p .count)
+
+    pub passed : {k : ℕ} → silentNumber k ≡ 0 → Passed × (k ≡ 0)
+    passed {k} e =
+        let p = early-passed e in
+        let wrong = isWrong (sumSaid (settings .release) frame) in
+        let other = not (stationPasses (settings .release) (settings .station) frame) in
+        let n = wrongCount settings frame points kept in
+        let a = one-passed (forbidden settings frame) 12 (cond wrong 7 (cond other 8 (cond n 11 k))) (omega arith) (p .1) in
+        let b = one-passed wrong 7 (cond other 8 (cond n 11 k)) (omega arith) (a .1) in
+        let c = one-passed other 8 (cond n 11 k) (omega arith) (b .1) in
+        let d = one-passed n 11 k (omega arith) (c .1) in
+        (record { early = p .0; allowed = a .0; sum = b .0; station = was-not (c .0); count = d .0 }, d .1)
+
+    pub silent-given : (k : ℕ) → (silentNumber 0 ≡ 0 → ⊥) → (silentNumber k ≡ silentNumber 0) × (silentNumber 0 < 101)
+    silent-given k h = gate-given (gates early-gate (late-gate settings frame points kept)) k h
 
 -- a check's rows are those of a reply area that is long enough
 module _ (frame : List ℕ) (axes : Axes) (settings : Settings) (lengths : Lengths) (journal : List ℕ) (kept : Kept) where
@@ -214,31 +250,43 @@ module _ (frame : List ℕ) (axes : Axes) (settings : Settings) (lengths : Lengt
   unfolding checkRows areaRows
   check-rows = refl
 
-  pub checked-rows : firstOf (checkRows frame axes settings lengths journal kept ++ lateRows settings frame)
-      ≡ silentNumber 1024 frame axes settings lengths journal kept 0
-  unfolding checkRows areaRows lateRows
-  checked-rows = refl
+  pub checked-rows : (points : List ℕ) → firstOf (checkRows frame axes settings lengths journal kept ++ (lateRows settings frame ++ countRows settings frame points kept))
+      ≡ silentNumber 1024 frame axes settings lengths journal kept points 0
+  unfolding checkRows areaRows lateRows countRows
+  checked-rows points = refl
 
 -- a call's rows
 abbrev pub numberOf : Call → ℕ → ℕ
-numberOf c = silentNumber (length (c .sent .reply)) (c .sent .frame) (c .sent .axes) (c .sent .settings) (lengthsOf (c .areas)) (c .areas .journal) (c .areas .kept)
+numberOf c =
+    silentNumber (length (c .sent .reply)) (c .sent .frame) (c .sent .axes) (c .sent .settings) (lengthsOf (c .areas)) (c .areas .journal) (c .areas .kept)
+    (c .areas .points)
 
 abbrev pub CallPassed : Call → Type 0
-CallPassed c = Passed (length (c .sent .reply)) (c .sent .frame) (c .sent .axes) (c .sent .settings) (lengthsOf (c .areas)) (c .areas .journal) (c .areas .kept)
+CallPassed c =
+    Passed (length (c .sent .reply)) (c .sent .frame) (c .sent .axes) (c .sent .settings) (lengthsOf (c .areas)) (c .areas .journal) (c .areas .kept)
+    (c .areas .points)
+
+-- those up to 8
+abbrev pub eightOf : Call → ℕ → ℕ
+eightOf c = eightNumber (length (c .sent .reply)) (c .sent .frame) (c .sent .axes) (c .sent .settings) (lengthsOf (c .areas)) (c .areas .journal) (c .areas .kept)
+
+pub eight-is : (c : Call) → firstOf (early c ++ lateRows (c .sent .settings) (c .sent .frame)) ≡ eightOf c 0
+unfolding checkRows areaRows lateRows
+eight-is c = refl
 
 pub silent-is : (c : Call) → silentOf c ≡ numberOf c 0
-unfolding silentOf checkRows areaRows lateRows
+unfolding silentOf checkRows areaRows lateRows countRows
 silent-is c = refl
 
 pub refusal-is : (c : Call)
     → refusalOf c ≡ numberOf c (firstOf (askedRows (heldIn (lengthsOf (c .areas))) (c .sent .settings .fitted) (c .sent .settings .release) (messageOf (c .sent .settings .release) (c .sent .frame)) (contentIn (c .sent .frame))))
-unfolding refusalOf checkRows areaRows lateRows
+unfolding refusalOf checkRows areaRows lateRows countRows
 refusal-is c = refl
 
 pub call-passed : (c : Call) → silentOf c ≡ 0 → CallPassed c
 call-passed c e =
     passed (length (c .sent .reply)) (c .sent .frame) (c .sent .axes) (c .sent .settings) (lengthsOf (c .areas)) (c .areas .journal) (c .areas .kept)
-    (sym (silent-is c) ∙ e)
+    (c .areas .points) (sym (silent-is c) ∙ e)
     .0
 
 -- each return of the tests of the areas
@@ -265,14 +313,25 @@ module _ (l : Lengths) (j : List ℕ) (kept : Kept) where
   area-past : firstOf (areaRows l j kept) ≡ 0 → (k : ℕ) → areaNumber l j kept k ≡ k
   area-past e k = past-areas l j kept (areas-pass l j kept (sym (area-rows l j kept) ∙ e) .0) k
 
-  pub back-area : {n : ℕ} → n ≡ firstOf (areaRows l j kept) → (n ≡ 0 → ⊥) → n ≡ firstOf (backRows l j kept)
-  back-area e f = e ∙ area-given l j kept _ (λ z. f (e ∙ z)) ∙ sym (back-rows l j kept)
+  -- each return of a step back's tests
+  module _ (points : List ℕ) where
+    pub back-area : {n : ℕ} → n ≡ firstOf (areaRows l j kept) → (n ≡ 0 → ⊥) → n ≡ firstOf (backRows l points j kept)
+    back-area e f = e ∙ area-given l j kept _ (λ z. f (e ∙ z)) ∙ sym (back-rows l j kept points)
 
-  pub back-9 : firstOf (areaRows l j kept) ≡ 0 → kept .used ≡ 0 → 9 ≡ firstOf (backRows l j kept)
-  back-9 e u = sym (back-rows l j kept ∙ area-past e (cond (eqb (kept .used) 0) 9 0) ∙ rw (eq-eqb _ _ u))
+    module _ (e : firstOf (areaRows l j kept) ≡ 0) where
+      -- the slots fill their area, so they can be counted
+      pub back-points : l .points ≡ length points → pointsFit (length points) ≡ true
+      back-points h = rw h at (areas-pass l j kept (sym (area-rows l j kept) ∙ e) .0 .points)
 
-  pub back-0 : firstOf (areaRows l j kept) ≡ 0 → (kept .used ≡ 0 → ⊥) → 0 ≡ firstOf (backRows l j kept)
-  back-0 e u = sym (back-rows l j kept ∙ area-past e (cond (eqb (kept .used) 0) 9 0) ∙ rw (ne-eqb _ _ u))
+      pub back-11 : countTrue points (kept .effective) ≡ false → 11 ≡ firstOf (backRows l points j kept)
+      back-11 t = sym (back-rows l j kept points ∙ area-past e (ownBack l j kept points) ∙ rw t)
+
+      module _ (t : countTrue points (kept .effective) ≡ true) where
+        pub back-9 : kept .used ≡ 0 → 9 ≡ firstOf (backRows l points j kept)
+        back-9 u = sym (back-rows l j kept points ∙ area-past e (ownBack l j kept points) ∙ rw (t, eq-eqb _ _ u))
+
+        pub back-0 : (kept .used ≡ 0 → ⊥) → 0 ≡ firstOf (backRows l points j kept)
+        back-0 u = sym (back-rows l j kept points ∙ area-past e (ownBack l j kept points) ∙ rw (t, ne-eqb _ _ u))
 
   -- each return of a frame's tests
   module _ (frame : List ℕ) (axes : Axes) (settings : Settings) where
@@ -297,12 +356,12 @@ module _ (l : Lengths) (j : List ℕ) (kept : Kept) where
           pub early-0 : shaped frame ≡ true → 0 ≡ firstOf (checkRows frame axes settings l j kept)
           early-0 s = behind 0 (area-past e _ ∙ rw (f, r, s))
 
-    -- behind them stand the sum and the station
-    pub silent-early : {n : ℕ} → n ≡ firstOf (checkRows frame axes settings l j kept) → (n ≡ 0 → ⊥)
-        → n ≡ firstOf (checkRows frame axes settings l j kept ++ lateRows settings frame)
-    silent-early e f =
+    -- behind them stand the sum, the station and the count
+    pub silent-early : (points : List ℕ) {n : ℕ} → n ≡ firstOf (checkRows frame axes settings l j kept) → (n ≡ 0 → ⊥)
+        → n ≡ firstOf (checkRows frame axes settings l j kept ++ (lateRows settings frame ++ countRows settings frame points kept))
+    silent-early points e f =
         let q = e ∙ check-rows frame axes settings l j kept in
-        q ∙ sym (checked-rows frame axes settings l j kept ∙ early-given 1024 frame axes settings l j kept _ (λ z. f (q ∙ z)) .0)
+        q ∙ sym (checked-rows frame axes settings l j kept points ∙ early-given 1024 frame axes settings l j kept _ (λ z. f (q ∙ z)) .0)
 
     module _ (e : firstOf (checkRows frame axes settings l j kept) ≡ 0) where
       none-early : EarlyPassed 1024 frame axes settings l j kept
@@ -311,16 +370,24 @@ module _ (l : Lengths) (j : List ℕ) (kept : Kept) where
       pub silent-long : 10 ≤ length frame
       silent-long = shaped-long frame (none-early .shape)
 
-      pub silent-late : {n : ℕ} → n ≡ firstOf (lateRows settings frame) → n ≡ firstOf (checkRows frame axes settings l j kept ++ lateRows settings frame)
-      silent-late g =
-          g ∙ late-rows settings frame ∙ sym (checked-rows frame axes settings l j kept ∙ past-early 1024 frame axes settings l j kept none-early _)
+      module _ (points : List ℕ) where
+        pub silent-points : l .points ≡ length points → pointsFit (length points) ≡ true
+        silent-points h = rw h at (none-early .areas .points)
 
--- the tests of the sum and the station, by what the sum test said
-module _ (settings : Settings) (frame : List ℕ) where
+        pub silent-late : {n : ℕ} → n ≡ firstOf (lateRows settings frame ++ countRows settings frame points kept)
+            → n ≡ firstOf (checkRows frame axes settings l j kept ++ (lateRows settings frame ++ countRows settings frame points kept))
+        silent-late g =
+            g ∙ late-rows settings frame points kept
+            ∙ sym (checked-rows frame axes settings l j kept points ∙ past-early 1024 frame axes settings l j kept none-early _)
+
+-- the tests of the sum, the station and the count, by what the sum test said
+module _ (settings : Settings) (frame points : List ℕ) (kept : Kept) where
   pub late-by : (s : Sum) → s ≡ sumSaid (settings .release) frame
-      → firstOf (lateRows settings frame)
-      ≡ cond (isOff s && not (settings .unchecked)) 12 (cond (isWrong s) 7 (cond (not (stationPasses (settings .release) (settings .station) frame)) 8 0))
-  late-by s e = late-rows settings frame ∙ rw (← e)
+      → firstOf (lateRows settings frame ++ countRows settings frame points kept)
+      ≡ cond (isOff s && not (settings .unchecked)) 12
+      (cond (isWrong s) 7
+      (cond (not (stationPasses (settings .release) (settings .station) frame)) 8 (cond (wrongCount settings frame points kept) 11 0)))
+  late-by s e = late-rows settings frame points kept ∙ rw (← e)
 
 -- what is told, by the refusal before the sum
 pub told-untested : {n : ℕ} (release : ℕ) (frame : List ℕ) → (n ≡ 0 → ⊥) → toldAfter n release frame ≡ Untested

@@ -1,16 +1,19 @@
 -- What passing the tests assures.
 use Prim.Native.Nat.{ℕ, _+_, _-_, _*_, _/_, _%_, _≤_, _<_}
-use mathlib.Core.Path.{_≡_}
-use mathlib.Core.Bool.{Bool, true, false, _&&_}
-use mathlib.Core.List.{List}
+use mathlib.Core.Path.{_≡_, refl, sym, ap, _∙_}
+use mathlib.Core.Bool.{Bool, true, false, cond, not, _&&_}
+use mathlib.Core.Logic.{_⊎_, inl, inr}
+use mathlib.Core.List.{List, [], _∷_}
 use native.Mathlib.Omega.{arith}
 use native.Mathlib.Numerals.{add-one}
 use lib.Dec.{leb, eqb}
 use lib.ListN.{length, take, drop, getD, drop-of-length-le}
 use lib.Seq.{drop-cons}
-use borrow.Author.Tests.{leb-true, eqb-true, le-leb, lt-leb}
+use borrow.Author.Tests.{leb-true, eqb-true, eq-eqb, le-leb, lt-leb}
+use Rattle.digits.proofs.Bools.{either, not-not}
 use Rattle.digits.proofs.Inverse.{and-left, and-right}
-use Rattle.frames.specs.Frame.{command, CR, LF, testCallFits, shaped}
+use Rattle.digits.specs.Digits.{admitted, numberOf}
+use Rattle.frames.specs.Frame.{command, CR, LF, messageIn, testCallFits, shaped}
 use Rattle.kinds.specs.declared.Held.{Held}
 use Rattle.kinds.specs.declared.Lengths.{Lengths}
 use Rattle.kinds.specs.declared.Firsts.{Firsts}
@@ -18,7 +21,16 @@ use Rattle.kinds.specs.Kinds.{Sound, heldIn}
 use Rattle.journal.specs.Journal.{whole}
 use Rattle.axes.specs.declared.AxisRecord.{AxisRecord}
 use Rattle.axes.specs.Records.{zeroRecord}
-use Rattle.refusals.specs.Refusals.{pointsFit, variablesFit, leastJournal, journalFits, recordsFit}
+use Rattle.points.specs.Point.{effectiveIn}
+use Rattle.slots.proofs.Counted.{effective-most}
+use Rattle.table.specs.declared.Action.{Action}
+use Rattle.table.specs.declared.Action.the-variants.{SayBack, CountPoints, ListPoints, ReadRun, AxisStatus, WritePoints, ClearRun, ChangeRun, ShowFlags, SetFlag}
+use Rattle.table.specs.declared.Message.{Message}
+use Rattle.table.specs.declared.Named.{Named}
+use Rattle.table.specs.declared.Named.the-variants.{Known, Unknown}
+use Rattle.table.specs.Table.{messages, namedIn, messageNumbered, messageOf}
+use Rattle.messages.proofs.Shapes.{Each}
+use Rattle.refusals.specs.Refusals.{pointsFit, variablesFit, leastJournal, journalFits, recordsFit, countTrue, countFits, miscounted}
 
 -- a shaped frame has '!' first, CR LF last and 10 to 1,023 bytes, and a test call has 20 (02, c)
 pub record Shape (f : List ℕ) : Type 0 where
@@ -113,6 +125,55 @@ journal-fits held j used e =
       within = leb-true _ _ (and-left c w g);
       entries = and-right c w g;
     }
+
+-- a true count fits with any frame
+pub true-fits : (n : Named) (points : List ℕ) (effective : ℕ) → effective ≡ effectiveIn (length points / 40) points → miscounted n points effective ≡ false
+true-fits Unknown points effective e = refl
+true-fits (Known m) points effective e = ap not (go (m .does))
+  where
+    go : (a : Action) → countFits a points effective ≡ true
+    go SayBack = refl
+    go CountPoints = le-leb effective (length points / 40) (omega (arith, e, effective-most (length points / 40) points))
+    go ListPoints = refl
+    go ReadRun = refl
+    go AxisStatus = refl
+    go WritePoints = eq-eqb effective (effectiveIn (length points / 40) points) e
+    go ClearRun = eq-eqb effective (effectiveIn (length points / 40) points) e
+    go ChangeRun = refl
+    go ShowFlags = refl
+    go SetFlag = refl
+
+-- a message of another ID looks at no count
+module _ (id : ℕ) (points : List ℕ) (effective : ℕ) where
+  fits-in : (ms : List Message) → Each (λ (m : Message). m .id ≡ id → not (countFits (m .does) points effective) ≡ false) ms
+      → miscounted (namedIn id ms) points effective ≡ false
+  fits-in [] h = refl
+  fits-in (m ∷ ms) h =
+      either (λ (n : Named). miscounted n points effective ≡ false) (eqb id (m .id)) (λ e. h .0 (sym (eqb-true _ _ e))) (λ _. fits-in ms (h .1))
+
+  pub other-fits : (id ≡ 0x244 → ⊥) → (id ≡ 0x246 → ⊥) → (id ≡ 0x208 → ⊥) → miscounted (messageNumbered id) points effective ≡ false
+  unfolding messageNumbered
+  other-fits w c k =
+      fits-in messages (λ _. refl, (λ e. absurd (k (sym e)), (λ _. refl, (λ _. refl, (λ _. refl, (λ _. refl, (λ _. refl, (λ e. absurd (w (sym e)), (λ e. absurd (c (sym e)), (λ _. refl, (λ _. refl, (λ _. refl, tt))))))))))))
+
+-- and one of these needs a true count, or one that isn't above N
+pub write-fits : {r : Bool} (id : ℕ) (points : List ℕ) (effective : ℕ) → (id ≡ 0x244) ⊎ (id ≡ 0x246) → r ≡ countTrue points effective
+    → r ≡ not (miscounted (messageNumbered id) points effective)
+unfolding messageNumbered
+write-fits id points effective (inl w) e = rw w (e ∙ sym (not-not (countTrue points effective)))
+write-fits id points effective (inr w) e = rw w (e ∙ sym (not-not (countTrue points effective)))
+
+pub poll-fits : (id : ℕ) (points : List ℕ) (effective : ℕ) → id ≡ 0x208
+    → leb effective (length points / 40) ≡ not (miscounted (messageNumbered id) points effective)
+unfolding messageNumbered
+poll-fits id points effective w = rw w (sym (not-not (leb effective (length points / 40))))
+
+-- the number of a frame by what is found of its ID
+pub by-id : {n : ℕ} {w : Bool} (release : ℕ) (frame points : List ℕ) (effective : ℕ) → (admitted release (messageIn frame) ≡ true) × (n ≡ numberOf (messageIn frame))
+    → miscounted (messageNumbered n) points effective ≡ w → _≡_ {A = ℕ} (cond w 11 0) (cond (miscounted (messageOf release frame) points effective) 11 0)
+unfolding messageOf
+by-id {n} {w} release frame points effective e f =
+    ap (λ (b : Bool). cond b 11 0) (sym f ∙ ap (λ (k : ℕ). miscounted (messageNumbered k) points effective) (e .1)) ∙ sym (rw (e .0))
 
 -- one record more
 module _ (rs : List AxisRecord) (i : ℕ) (h : i < length rs) where

@@ -1,7 +1,7 @@
--- Document 01, "Refusal numbers, in the order tested", and document 02, requests a, c, f, g and l: 1 to 10, 12 and 13 here, 101 to 108 by
+-- Document 01, "Refusal numbers, in the order tested", and document 02, requests a, b, c, f, g and l: 1 to 13 here, 101 to 108 by
 -- `askedRows` of messages. Nothing else decides a number; the 1 of an act (`actOf` of link) is row 1's, by `tooShort`.
-use Prim.Native.Nat.{ℕ, _+_, _*_, _%_}
-use mathlib.Core.Bool.{Bool, true, cond, not, _&&_, _||_}
+use Prim.Native.Nat.{ℕ, _+_, _*_, _/_, _%_}
+use mathlib.Core.Bool.{Bool, true, false, cond, not, _&&_, _||_}
 use mathlib.Core.List.{List, [], _∷_, _++_}
 use lib.Dec.{ltb, leb, eqb}
 use lib.ListN.{length, take}
@@ -9,9 +9,14 @@ use Rattle.frames.specs.Frame.{contentIn, shaped, sumSaid, isOff, isWrong, stat
 use Rattle.kinds.specs.declared.Held.{Held}
 use Rattle.kinds.specs.Kinds.{heldIn}
 use Rattle.journal.specs.Journal.{whole}
+use Rattle.points.specs.Point.{effectiveIn}
 use Rattle.axes.specs.declared.AxisRecord.{AxisRecord}
 use Rattle.axes.specs.declared.Axes.{Axes}
 use Rattle.messages.specs.Rows.{Row, _when_, firstOf}
+use Rattle.table.specs.declared.Action.{Action}
+use Rattle.table.specs.declared.Action.the-variants.{SayBack, CountPoints, ListPoints, ReadRun, AxisStatus, WritePoints, ClearRun, ChangeRun, ShowFlags, SetFlag}
+use Rattle.table.specs.declared.Named.{Named}
+use Rattle.table.specs.declared.Named.the-variants.{Known, Unknown}
 use Rattle.table.specs.Table.{messageOf}
 use Rattle.messages.specs.Asked.{askedRows}
 use Rattle.calls.specs.declared.Settings.{Settings}
@@ -58,6 +63,28 @@ axesFit axes fitted = axes .eight && (recordsFit (axes .records) && not (eqb fit
 unfoldable pub releaseFits : ℕ → Bool
 releaseFits release = eqb release 1 || eqb release 2
 
+-- 11, not: a true count "always equals the count of slots with a non-zero pattern" (02, b)
+abbrev pub countTrue : List ℕ → ℕ → Bool
+countTrue points effective = eqb effective (effectiveIn (length points / 40) points)
+
+-- "at 244H, 246H [..], a kept count that differs from the slots; at 208H, one above N, and no walk" (02, b): whether a message can be answered with a count
+abbrev pub countFits : Action → List ℕ → ℕ → Bool
+countFits SayBack points effective = true
+countFits CountPoints points effective = leb effective (length points / 40)
+countFits ListPoints points effective = true
+countFits ReadRun points effective = true
+countFits AxisStatus points effective = true
+countFits WritePoints points effective = countTrue points effective
+countFits ClearRun points effective = countTrue points effective
+countFits ChangeRun points effective = true
+countFits ShowFlags points effective = true
+countFits SetFlag points effective = true
+
+-- 11 of a frame, by its ID alone
+abbrev pub miscounted : Named → List ℕ → ℕ → Bool
+miscounted Unknown points effective = false
+miscounted (Known m) points effective = not (countFits (m .does) points effective)
+
 -- 2, 3, 10 ("tested after 3", 02, a) and 4: the areas, of a frame and of a step back
 unfoldable pub areaRows : Lengths → List ℕ → Kept → List Row
 areaRows lengths journal kept =
@@ -85,6 +112,10 @@ lateRows settings frame =
     ∷ (8 when (not (stationPasses (settings .release) (settings .station) frame)))
     ∷ []
 
+-- 11 ("tested after 8", 02, b): the count that is kept
+unfoldable pub countRows : Settings → List ℕ → List ℕ → Kept → List Row
+countRows settings frame points kept = (11 when (miscounted (messageOf (settings .release) frame) points (kept .effective))) ∷ []
+
 -- those of a call before the sum is tested, by a check and, with 1 before them, by an answer and an act
 abbrev pub checkEarly : Call → List Row
 checkEarly c = checkRows (c .sent .frame) (c .sent .axes) (c .sent .settings) (lengthsOf (c .areas)) (c .areas .journal) (c .areas .kept)
@@ -92,9 +123,13 @@ checkEarly c = checkRows (c .sent .frame) (c .sent .axes) (c .sent .settings) (l
 abbrev pub early : Call → List Row
 early c = (1 when (tooShort (length (c .sent .reply)))) ∷ checkEarly c
 
+-- those from the sum on
+abbrev pub late : Call → List Row
+late c = lateRows (c .sent .settings) (c .sent .frame) ++ countRows (c .sent .settings) (c .sent .frame) (c .areas .points) (c .areas .kept)
+
 -- and all of a frame's refusals without a reply
 abbrev pub silent : Call → List Row
-silent c = early c ++ lateRows (c .sent .settings) (c .sent .frame)
+silent c = early c ++ late c
 
 unfoldable pub silentOf : Call → ℕ
 silentOf c = firstOf (silent c)
@@ -108,12 +143,12 @@ toldOf c = toldAfter (firstOf (early c)) (c .sent .settings .release) (c .sent .
 
 -- of a check, whatever the reply area: its refusal without a reply, and what it tells of the sum (02, g)
 unfoldable pub checkSilentOf : Call → ℕ
-checkSilentOf c = firstOf (checkEarly c ++ lateRows (c .sent .settings) (c .sent .frame))
+checkSilentOf c = firstOf (checkEarly c ++ late c)
 
 abbrev pub checkToldOf : Call → Told
 checkToldOf c = toldAfter (firstOf (checkEarly c)) (c .sent .settings .release) (c .sent .frame)
 
--- a frame's refusal: 1 to 8, 10, 12 and 13, then 101 to 108
+-- a frame's refusal: 1 to 8 and 10 to 13, then 101 to 108
 unfoldable pub refusalOf : Call → ℕ
 refusalOf c =
     firstOf
@@ -121,9 +156,10 @@ refusalOf c =
     ++ askedRows (heldIn (lengthsOf (c .areas))) (c .sent .settings .fitted) (c .sent .settings .release)
     (messageOf (c .sent .settings .release) (c .sent .frame)) (contentIn (c .sent .frame)))
 
--- "The step back tests 2, 3, 4, then 9", and 10 after 3 (02, a)
-unfoldable pub backRows : Lengths → List ℕ → Kept → List Row
-backRows lengths journal kept = areaRows lengths journal kept ++ ((9 when (eqb (kept .used) 0)) ∷ [])
+-- "The step back tests 2, 3, 4, then 9", and 10 after 3 (02, a); "after 4 in a step back" 11, of an entry of any kind (02, b)
+unfoldable pub backRows : Lengths → List ℕ → List ℕ → Kept → List Row
+backRows lengths points journal kept =
+    areaRows lengths journal kept ++ ((11 when (not (countTrue points (kept .effective)))) ∷ (9 when (eqb (kept .used) 0)) ∷ [])
 
 unfoldable pub backRefusalOf : Areas → ℕ
-backRefusalOf a = firstOf (backRows (lengthsOf a) (a .journal) (a .kept))
+backRefusalOf a = firstOf (backRows (lengthsOf a) (a .points) (a .journal) (a .kept))

@@ -1,10 +1,11 @@
 // The tests behind the refusals without a reply but 1, and the step back's (document 01, "Refusal numbers, in the order tested"; document 02, a: 10;
-// f: 12; l: 13; g: a check tests them too).
+// b: 11; f: 12; l: 13; g: a check tests them too).
 use axes::Axes;
 use axes::AxisRecord;
 use calls::Kept;
 use calls::Settings;
 use calls::Told;
+use digits::Field;
 use frames::checks::Sum;
 use frames::checks::is_ours;
 use frames::checks::is_shaped;
@@ -15,14 +16,17 @@ use kinds::Held;
 use kinds::Lengths;
 use kinds::held_in;
 use points::point::Point;
+use slots::count_effective;
 ghost use mathlib.Core.Path.{_≡_};
+ghost use mathlib.Core.Bool.{true, cond, not};
 ghost use mathlib.Core.List.{_++_};
 ghost use Prim.Native.Nat.{_≤_};
 ghost use lib.ListN.{length};
 ghost use Rattle.frames.specs.Frame.{sumSaid};
 ghost use Rattle.kinds.specs.Kinds.{Sound};
+ghost use Rattle.table.specs.Table.{messageNumbered, messageOf};
 ghost use Rattle.messages.specs.Rows.{firstOf};
-ghost use Rattle.refusals.specs.Refusals.{pointsFit, variablesFit, journalFits, recordsFit, axesFit, releaseFits, areaRows, checkRows, lateRows, toldAfter, backRows};
+ghost use Rattle.refusals.specs.Refusals.{pointsFit, variablesFit, journalFits, recordsFit, axesFit, releaseFits, countTrue, miscounted, areaRows, checkRows, lateRows, countRows, toldAfter, backRows};
 
 // What a frame's tests before its message say: the refusal without a reply, or 0, and what is told of the sum.
 pub struct Hearing {
@@ -135,10 +139,49 @@ fn fits_release(release: u8) -> bool
     release == 1 || release == 2
 }
 
-// Tests 12, 7 and 8, by what the sum test said: the refusal, or 0.
-fn late_refusal(sum: Sum, settings: Settings, frame: &[u8]) -> u16
-    requires { ⌜ (10 ≤ length (now frame)) × (sum ≡ sumSaid (settings .release) (now frame)) ⌝ }
-    ensures { λ r. ⌜ r ≡ firstOf (lateRows settings (now (frame .entry))) ⌝ }
+// The count that is kept is the slots' own: these are walked.
+fn is_true(points: &[u8], effective: usize) -> bool
+    requires { ⌜ pointsFit (length (now points)) ≡ true ⌝ }
+    ensures { λ r. ⌜ r ≡ countTrue (now (points .entry)) effective ⌝ }
+{
+    effective == count_effective(points, points.len() / Point::SLOT)
+}
+
+// Refusal 11, passed, by an ID: 244H and 246H need a true count, 208H one that isn't above N, and no other message looks at it.
+fn fits_count(id: u64, points: &[u8], effective: usize) -> bool
+    requires { ⌜ pointsFit (length (now points)) ≡ true ⌝ }
+    ensures { λ r. ⌜ r ≡ not (miscounted (messageNumbered id) (now (points .entry)) effective) ⌝ }
+{
+    if id == 0x244 || id == 0x246 {
+        return is_true(points, effective);
+    }
+    if id == 0x208 {
+        return effective <= points.len() / Point::SLOT;
+    }
+    true
+}
+
+// Test 11, by the frame's ID: the refusal, or 0.
+fn count_refusal(release: u8, frame: &[u8], points: &[u8], effective: usize) -> u16
+    requires { ⌜ (10 ≤ length (now frame)) × (pointsFit (length (now points)) ≡ true) ⌝ }
+    ensures { λ r. ⌜ r ≡ cond (miscounted (messageOf release (now (frame .entry))) (now (points .entry)) effective) 11 0 ⌝ }
+{
+    let id = digits::read_field(release, &frame[3..6]);
+    match id {
+        Field::NotDigits => 0,
+        Field::Number(k) => {
+            if !fits_count(k, points, effective) {
+                return 11;
+            }
+            0
+        }
+    }
+}
+
+// Tests 12, 7 and 8, by what the sum test said, and 11: the refusal, or 0.
+fn late_refusal(sum: Sum, settings: Settings, frame: &[u8], points: &[u8], kept: Kept) -> u16
+    requires { ⌜ (10 ≤ length (now frame)) × (sum ≡ sumSaid (settings .release) (now frame)) × (pointsFit (length (now points)) ≡ true) ⌝ }
+    ensures { λ r. ⌜ r ≡ firstOf (lateRows settings (now (frame .entry)) ++ countRows settings (now (frame .entry)) (now (points .entry)) kept) ⌝ }
 {
     match sum {
         Sum::True => {}
@@ -154,7 +197,7 @@ fn late_refusal(sum: Sum, settings: Settings, frame: &[u8]) -> u16
     if !is_ours(settings.release, settings.station, frame) {
         return 8;
     }
-    0
+    count_refusal(settings.release, frame, points, kept.effective)
 }
 
 // Tests 2 to 6, 10 and 13: the refusal, or 0.
@@ -184,17 +227,20 @@ fn early_refusal(
     0
 }
 
-// The refusal without a reply, 2 to 8, 10, 12 or 13, or 0, and what is told of the sum; 1 is tested where there is a reply area, before all this.
+// The refusal without a reply, 2 to 8 or 10 to 13, or 0, and what is told of the sum; 1 is tested where there is a reply area, before all this.
 pub fn silent(
     frame: &[u8],
     axes: Axes,
     settings: Settings,
     lengths: Lengths,
+    points: &[u8],
     journal: &[u8],
     kept: Kept,
 ) -> Hearing
+    requires { ⌜ lengths .points ≡ length (now points) ⌝ }
     ensures { λ r. ⌜ r .number
-        ≡ firstOf (checkRows (now (frame .entry)) axes settings lengths (now (journal .entry)) kept ++ lateRows settings (now (frame .entry))) ⌝ }
+        ≡ firstOf (checkRows (now (frame .entry)) axes settings lengths (now (journal .entry)) kept
+        ++ (lateRows settings (now (frame .entry)) ++ countRows settings (now (frame .entry)) (now (points .entry)) kept)) ⌝ }
     ensures { λ r. ⌜ r .sum
         ≡ toldAfter (firstOf (checkRows (now (frame .entry)) axes settings lengths (now (journal .entry)) kept)) (settings .release) (now (frame .entry)) ⌝ }
 {
@@ -207,18 +253,22 @@ pub fn silent(
     }
     let sum = test_sum(settings.release, frame);
     Hearing {
-        number: late_refusal(sum, settings, frame),
+        number: late_refusal(sum, settings, frame, points, kept),
         sum: Told::Said(sum),
     }
 }
 
-// The step back's refusal: 2, 3, 10, 4, then 9, or 0.
-pub fn back_refusal(lengths: Lengths, journal: &[u8], kept: Kept) -> u16
-    ensures { λ r. ⌜ r ≡ firstOf (backRows lengths (now (journal .entry)) kept) ⌝ }
+// The step back's refusal: 2, 3, 10, 4, 11, then 9, or 0.
+pub fn back_refusal(lengths: Lengths, points: &[u8], journal: &[u8], kept: Kept) -> u16
+    requires { ⌜ lengths .points ≡ length (now points) ⌝ }
+    ensures { λ r. ⌜ r ≡ firstOf (backRows lengths (now (points .entry)) (now (journal .entry)) kept) ⌝ }
 {
     let number = area_refusal(lengths, journal, kept);
     if number != 0 {
         return number;
+    }
+    if !is_true(points, kept.effective) {
+        return 11;
     }
     if kept.used == 0 {
         return 9;

@@ -3,6 +3,7 @@ use areas::bytes::four_at;
 use areas::bytes::put_four;
 use areas::bytes::put_two;
 use areas::bytes::two_at;
+use kinds::Kind;
 use points::point::Point;
 use points::reading::point_length;
 use points::reading::read_point;
@@ -16,7 +17,9 @@ ghost use Prim.Native.Nat.{_+_, _*_, _≤_};
 ghost use lib.ListN.{length, drop};
 ghost use Rattle.digits.specs.Digits.{allDigits};
 ghost use Rattle.digits.specs.Laid.{laid};
+ghost use Rattle.kinds.specs.Kinds.{pointsTag, placeOf};
 ghost use Rattle.points.specs.Point.{fillsOf, positionBytes, slotOf, slotsOf, positionsIn, pointIn, effectiveIn};
+ghost use Rattle.slots.specs.Counted.{effectiveAmong};
 
 // The pattern and a zero byte.
 fn put_pattern(area: &mut [u8], at: usize, pattern: u8)
@@ -105,12 +108,12 @@ pub fn point_at(area: &[u8], at: usize) -> Point
     }
 }
 
-// How many of so many slots have a pattern that is not 00. In two bytes, so that the compiler counts many at once.
-pub fn count_effective(area: &[u8], n: usize) -> u16
+// How many of so many slots have a pattern that is not 00.
+pub fn count_effective(area: &[u8], n: usize) -> usize
     requires { ⌜ (length (now area) ≡ 40 * n) × (n ≤ 1500) ⌝ }
     ensures { λ r. ⌜ r ≡ effectiveIn n (now (area .entry)) ⌝ }
 {
-    let mut count: u16 = 0;
+    let mut count: usize = 0;
     let mut i = 0;
     while i < n {
         if area[i * Point::SLOT] != 0 {
@@ -119,4 +122,16 @@ pub fn count_effective(area: &[u8], n: usize) -> u16
         i += 1;
     }
     count
+}
+
+// How many effective slots a run has that lies in its area; a run of another kind than points has none.
+pub fn count_run(area: &[u8], k: Kind, start: usize, count: usize) -> usize
+    requires { ⌜ (k .tag ≡ pointsTag → (k .unit ≡ 40) × (k .first ≤ start) × (count ≤ 1500) × (placeOf k start + count * 40 ≤ length (now area))) ⌝ }
+    ensures { λ r. ⌜ r ≡ effectiveAmong k start count (now (area .entry)) ⌝ }
+{
+    if k.tag != Kind::POINTS {
+        return 0;
+    }
+    let at = k.place(start);
+    count_effective(&area[at..at + count * Point::SLOT], count)
 }

@@ -8,7 +8,6 @@ use lib.ListN.{length, getD}
 use borrow.Author.Tests.{eq-eqb}
 use Rattle.kinds.specs.Kinds.{pointsTag, columnsTag, kindOf, runOf}
 use Rattle.journal.specs.Journal.{Entry, encodes, added}
-use Rattle.calls.specs.declared.Kept.{Kept}
 use Rattle.calls.specs.Calls.{Areas, Sent, areaIn}
 use Rattle.refusals.specs.Refusals.{refusalOf}
 use Rattle.link.specs.Answer.{held, asked}
@@ -45,7 +44,7 @@ abbrev due : Conduct → List Event → ℕ
 due board events = getD (alone board smallest (small board events .standing-writes) .columns) 0 0
 
 -- what a board that keeps the demand has come to
-kept-so : (board : Conduct) → EveryHistory board → (events : List Event) → Holds board (holding 2) 580 (small board events)
+pub kept-so : (board : Conduct) → EveryHistory board → (events : List Event) → Holds board (holding 2) 580 (small board events)
 kept-so board h events = h (holding 2) 580 (record { some-points = omega arith; points = omega arith; integers = omega arith; flags = omega arith }) (omega arith) (omega arith) events
 
 -- a history whose first column is another
@@ -61,7 +60,7 @@ used-due board = length (encodes (entries (small board (frame pointOne ∷ []) .
 
 -- a used length that is another
 invented : (board : Conduct) (x y : ℕ) → used-there board ≡ x → used-due board ≡ y → (x ≡ y → ⊥) → EveryHistory board → ⊥
-invented board x y e f k h = k (sym e ∙ ap (λ (u : Kept). u .used) (kept-so board h (frame pointOne ∷ []) .kept) ∙ f)
+invented board x y e f k h = k (sym e ∙ kept-so board h (frame pointOne ∷ []) .used ∙ f)
 
 -- a board that forgets, after one write; it has one entry after two
 abbrev once : Areas

@@ -12,11 +12,11 @@ use Rattle.table.specs.Table.{messageNumbered, messageOf, patternFits, patterns
 use Rattle.messages.specs.Asked.{askedRows, judged, askedOf}
 use Rattle.listing.specs.Listing.{listed}
 use Rattle.queries.specs.Replies.{recordsDigits}
-use Rattle.refusals.specs.Refusals.{pointsFit, variablesFit, journalFits, recordsFit, axesFit, releaseFits, areaRows, checkRows, lateRows, silentOf, toldAfter, checkSilentOf, refusalOf, backRows, backRefusalOf}
+use Rattle.refusals.specs.Refusals.{pointsFit, variablesFit, journalFits, recordsFit, axesFit, releaseFits, areaRows, checkRows, lateRows, countRows, silentOf, toldAfter, checkSilentOf, refusalOf, backRows, backRefusalOf}
 use Rattle.link.specs.Answer.{answerOf}
 use Rattle.link.specs.Check.{checkOf, actOf}
 use Rattle.back.specs.Back.{backOf}
 
 unfoldable pub a-call : Unit {0}
-unfolding admits worthOf capital byteOf laid hasTestID shaped sumTrue sumOff sumSaid stationPasses replyOf findIn kindOf holds runOf put encode encodes entryFits frontOf whole entryAt entriesIn kept added areaOf lastOf othersOf lastEntry others puts axesFrom axesOf positionsOf pointOf lengthOf fillsOf positionBytes slotOf slotsOf positionsIn pointIn effectiveIn positionDigits pointDigits messageNumbered messageOf patternFits patternsFit askedRows judged askedOf listed recordsDigits bitsOf eights pointsFit variablesFit journalFits recordsFit axesFit releaseFits areaRows checkRows lateRows silentOf toldAfter checkSilentOf refusalOf backRows backRefusalOf answerOf backOf checkOf actOf
+unfolding admits worthOf capital byteOf laid hasTestID shaped sumTrue sumOff sumSaid stationPasses replyOf findIn kindOf holds runOf put encode encodes entryFits frontOf whole entryAt entriesIn kept added areaOf lastOf othersOf lastEntry others puts axesFrom axesOf positionsOf pointOf lengthOf fillsOf positionBytes slotOf slotsOf positionsIn pointIn effectiveIn positionDigits pointDigits messageNumbered messageOf patternFits patternsFit askedRows judged askedOf listed recordsDigits bitsOf eights pointsFit variablesFit journalFits recordsFit axesFit releaseFits areaRows checkRows lateRows countRows silentOf toldAfter checkSilentOf refusalOf backRows backRefusalOf answerOf backOf checkOf actOf
 a-call = tt

@@ -36,8 +36,8 @@ use Rattle.link.proofs.Answering.{accepted, frame-number}
 use Rattle.orders.proofs.Judging.{Writable}
 use Rattle.link.proofs.Carrying.{fine, areas-long}
 use Rattle.trials.specs.Cases.{holding, bench}
-use Rattle.demands.specs.History.{Conduct, entries, entrySaid}
-use Rattle.demands.specs.Reading.{content, startOf, countOf, restOf, Host, asking, asksRun, digitsFrom, kindIn, effectiveOf}
+use Rattle.demands.specs.History.{Conduct, entries, effectiveOf, CountTrue, entrySaid}
+use Rattle.demands.specs.Reading.{content, startOf, countOf, restOf, Host, asking, asksRun, digitsFrom, kindIn}
 use Rattle.demands.specs.Survive.{Accepted, effectiveNamed, EveryDigitSurvives}
 use Rattle.trials.specs.Useless.{behindFirst, StoresFirst, InventsCount, usedAfter, Board, Meets, outcomeBy, given, Useless, ShutOut, saying, handingOn, firstBytes, firstOnly, parrot, storesFirst, fiveAlways, oneMore, usedAll, usedMore, Made}
 use Rattle.trials.proofs.Computing.{a-call}
@@ -188,7 +188,10 @@ tells-true board m i =
     ap (λ (o : Outcome). o .text) (same-outcome board m (asking (outcomeBy board (i .call) .areas) h b (text "208")))
     ∙ subst (λ (a : Areas). answerOf (asking a h b (text "208")) .text ≡ replyOf normal (h .settings .station) (text "208" ++ digitsOf 3 (effectiveOf a)))
     (ap (λ (o : Outcome). o .areas) (sym (same-outcome board m (i .call))))
-    (every-digit-survives .tells (i .id) (i .call) (i .accepted) .counted .text h (i .heard) b (i .lets))
+    (every-digit-survives .tells (i .id) (i .call) (i .accepted) .counted (every-digit-survives .count-kept (i .id) (i .call) (i .accepted) (i .counted)) .text h
+    (i .heard)
+    b
+    (i .lets))
 
 pub useless : Useless
 useless =
@@ -223,6 +226,10 @@ is-host : Host (test .sent)
 unfolding a-call
 is-host = record { reply-long = omega arith; axes-fit = refl; release-fits = refl; station-byte = omega arith }
 
+-- on a fresh board count 0 is true
+fresh-count : CountTrue two
+fresh-count = sym (told .one-counted .1)
+
 -- a board that keeps demand 2
 module _ (board : Conduct) (d : EveryDigitSurvives board) where
   -- counts one point after one was written to a fresh board, and none after a clear
@@ -236,8 +243,8 @@ module _ (board : Conduct) (d : EveryDigitSurvives board) where
   abbrev counting-after : Call → Call
   counting-after c = asking (board .answer c .areas) (test .sent) false (text "208")
 
-  heard : {id : ℕ} (c : Call) → Accepted id c → board .answer (counting-after c) .number ≡ 0
-  heard {id} c a = d .tells id c a .counted .number (test .sent) is-host false refl
+  heard : {id : ℕ} (c : Call) → Accepted id c → CountTrue (c .areas) → board .answer (counting-after c) .number ≡ 0
+  heard {id} c a t = d .tells id c a .counted (d .count-kept id c a t) .number (test .sent) is-host false refl
 
   -- so its reply is not the same
   differs : board .answer (counting-after one-point) .text ≡ board .answer (counting-after no-point) .text → ⊥
@@ -245,8 +252,8 @@ module _ (board : Conduct) (d : EveryDigitSurvives board) where
   differs e =
       let s : (n : ℕ) → List ℕ = λ n. replyOf normal 0x99 (text "208" ++ digitsOf 3 n) in
       let f =
-      ap s (sym one-counted) ∙ sym (d .tells 0x244 one-point is-one .counted .text (test .sent) is-host false refl) ∙ e
-      ∙ d .tells 0x246 no-point is-none .counted .text (test .sent) is-host false refl
+      ap s (sym one-counted) ∙ sym (d .tells 0x244 one-point is-one .counted (d .count-kept 0x244 one-point is-one fresh-count) .text (test .sent) is-host false refl) ∙ e
+      ∙ d .tells 0x246 no-point is-none .counted (d .count-kept 0x246 no-point is-none fresh-count) .text (test .sent) is-host false refl
       ∙ ap s none-counted in
       let g : _≡_ {A = ℕ} 0x31 0x30 = ap (λ (t : List ℕ). getD t 8 0) f in
       omega (arith, g)
@@ -306,7 +313,7 @@ shut-out =
     record {
       refuses-all = λ board n d. n one-point (d .accepted 0x244 one-point is-one);
       same-reply = λ board same d.
-          differs board d (same (counting-after board d one-point) (counting-after board d no-point) (heard board d one-point is-one) (heard board d no-point is-none));
+          differs board d (same (counting-after board d one-point) (counting-after board d no-point) (heard board d one-point is-one fresh-count) (heard board d no-point is-none fresh-count));
       stores-nothing = λ board n d.
           let e : effectiveOf (board .answer one-point .areas) ≡ 1 = one-counted board d in
           let l = ap length (n one-point) in
@@ -318,7 +325,7 @@ shut-out =
       stores-first-integer = λ board n d.
           second-differs board d
           (ap (λ (f : Firsts). runOf (kindOf (record { points = 2; firsts = f }) integersTag) 201 1 (changed board d .integers)) (same-firsts board d) ∙ n two-integers is-integers ∙ told .integer-before);
-      invents-count = λ board i d. i .other (d .tells (i .id) (i .call) (i .accepted) .counted .text (i .host) (i .heard) (i .checked) (i .lets));
+      invents-count = λ board i d. i .other (d .tells (i .id) (i .call) (i .accepted) .counted (d .count-kept (i .id) (i .call) (i .accepted) (i .counted)) .text (i .host) (i .heard) (i .checked) (i .lets));
     }
 
 -- what an accepted write leaves where its first thing alone is stored: what it names behind that stays
@@ -392,6 +399,7 @@ invents answer said same e n =
       id = 0x244;
       call = one-point;
       accepted = is-one;
+      counted = fresh-count;
       host = test .sent;
       heard = is-host;
       checked = false;

@@ -85,7 +85,7 @@ eitherAlways = record { answer = λ c. answerOf (under 2 c); back = backOf }
 abbrev pub withID : Call → Asked → Outcome → Outcome
 withID c (Refused number) o = o
 withID c (Order m start count) o =
-    saying (replyOf normal (c .sent .settings .station) (messageIn (c .sent .frame) ++ drop 3 (saidBy (m .does) (held c) (c .sent) m start count (areaIn (m .tag) (c .areas))))) o
+    saying (replyOf normal (c .sent .settings .station) (messageIn (c .sent .frame) ++ drop 3 (saidBy (m .does) (held c) (c .sent) (c .areas .kept) m start count (areaIn (m .tag) (c .areas))))) o
 
 abbrev pub idAsSent : Conduct
 idAsSent = honestBut (λ c o. whenAccepted c (withID c (asked c)) o)

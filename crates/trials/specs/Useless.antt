@@ -23,8 +23,8 @@ use Rattle.link.specs.Answer.{held, asked, answerOf}
 use Rattle.link.specs.Contract.{Answers}
 use Rattle.back.specs.Back.{backOf}
 use Rattle.demands.specs.Refused.{asksWrite}
-use Rattle.demands.specs.History.{Conduct, entries, entryBy}
-use Rattle.demands.specs.Reading.{startOf, countOf, Host, allowed, asking, effectiveOf}
+use Rattle.demands.specs.History.{Conduct, entries, effectiveOf, CountTrue, entryBy}
+use Rattle.demands.specs.Reading.{startOf, countOf, Host, allowed, asking}
 use Rattle.demands.specs.Survive.{Accepted, EveryDigitSurvives}
 
 -- "one that refuses all frames"
@@ -47,11 +47,13 @@ behindFirst m c a = runOf (kindOf (held c) (m .tag)) (suc (startOf m (c .sent)))
 abbrev pub StoresFirst : ℕ → (Call → Outcome) → Type 0
 StoresFirst id answer = (c : Call) (a : Accepted id c) → behindFirst (a .message) c (answer c .areas) ≡ behindFirst (a .message) c (c .areas)
 
--- "one that invents the 208H count": asked for it after some accepted frame, it does not tell how many of the slots that it left are effective
+-- "one that invents the 208H count": asked for it after some accepted frame that was handed "a count that is true" (02, b), it does not tell how many of
+-- the slots that it left are effective
 pub record InventsCount (answer : Call → Outcome) : Type 0 where
   pub id : ℕ
   pub call : Call
   pub accepted : Accepted id call
+  pub counted : CountTrue (call .areas)
   pub host : Sent
   pub heard : Host host
   pub checked : Bool
@@ -144,7 +146,7 @@ storing a o =
     }
 
 abbrev pub handing : ℕ → Outcome → Outcome
-handing used o = record { number = o .number; text = o .text; areas = handingOn (record { used = used }) (o .areas); sum = o .sum }
+handing used o = record { number = o .number; text = o .text; areas = handingOn (record { used = used; effective = o .areas .kept .effective }) (o .areas); sum = o .sum }
 
 -- in what is accepted alone, and in accepted writes alone
 abbrev pub whenAccepted : Call → (Outcome → Outcome) → Outcome → Outcome

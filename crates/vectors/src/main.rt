@@ -23,7 +23,7 @@ use messages::show;
 ghost use Prim.Native.Nat.{_+_, _≤_, _<_};
 ghost use lib.ListN.{length};
 
-// How much of each buffer is lent, the settings, and the used length.
+// How much of each buffer is lent, the settings, and what is kept.
 pub struct Board {
     pub points: usize,
     pub columns: usize,
@@ -34,7 +34,7 @@ pub struct Board {
     pub axes: usize,
     pub settings: Settings,
     pub firsts: Firsts,
-    pub used: usize,
+    pub kept: Kept,
 }
 
 // A byte of an operation, 0 beyond it.
@@ -190,7 +190,7 @@ fn answer_frame(
     acts: bool,
     reply: &mut [u8],
 ) -> Answered {
-    let kept = Kept { used: board.used };
+    let kept = board.kept;
     let read = read_axes(axes);
     if acts {
         return act(
@@ -238,8 +238,14 @@ fn answer_frame(
     )
 }
 
-// The numbers of an answer or an act; the used length.
-fn say_answered(answered: Answered, acts: bool) -> usize {
+// The used length, and the count of effective points.
+fn say_kept(kept: Kept) {
+    say_number(kept.used);
+    say_number(kept.effective);
+}
+
+// The numbers of an answer or an act; what is kept.
+fn say_answered(answered: Answered, acts: bool) -> Kept {
     let after = answered.kept;
     let told = answered.sum;
     if acts {
@@ -249,18 +255,18 @@ fn say_answered(answered: Answered, acts: bool) -> usize {
     }
     say_number(answered.number as usize);
     say_number(answered.length);
-    say_number(after.used);
+    say_kept(after);
     say_number(sum_code(told) as usize);
-    after.used
+    after
 }
 
-// The numbers of a step back; the used length.
-fn say_back(back: Back) -> usize {
+// The numbers of a step back; what is kept.
+fn say_back(back: Back) -> Kept {
     let after = back.kept;
     say(b"S");
     say_number(back.number as usize);
-    say_number(after.used);
-    after.used
+    say_kept(after);
+    after
 }
 
 // What is shown of a check.
@@ -287,7 +293,7 @@ fn play_check(
     axes: &[u8],
     board: Board,
 ) {
-    let kept = Kept { used: board.used };
+    let kept = board.kept;
     let checked = check(
         frame,
         points,
@@ -305,7 +311,7 @@ fn play_check(
     say(b"\n");
 }
 
-// One frame answered, or acted on; the used length.
+// One frame answered, or acted on; what is kept.
 fn play_frame(
     frame: &[u8],
     points: &mut [u8],
@@ -317,7 +323,7 @@ fn play_frame(
     axes: &[u8],
     board: Board,
     acts: bool,
-) -> usize {
+) -> Kept {
     let answered = answer_frame(
         frame,
         &mut *points,
@@ -337,7 +343,7 @@ fn play_frame(
     left
 }
 
-// One step back; the used length.
+// One step back; what is kept.
 fn play_back(
     points: &mut [u8],
     columns: &mut [u8],
@@ -345,8 +351,8 @@ fn play_back(
     flags: &mut [u8],
     journal: &mut [u8],
     board: Board,
-) -> usize {
-    let kept = Kept { used: board.used };
+) -> Kept {
+    let kept = board.kept;
     let back = step_back(
         &mut *points,
         &mut *columns,
@@ -394,7 +400,10 @@ fn board_of(rest: &[u8]) -> Board {
         axes: 72,
         settings: settings_at(rest, 3),
         firsts: firsts_at(rest, 11),
-        used: 0,
+        kept: Kept {
+            used: 0,
+            effective: 0,
+        },
     }
 }
 
@@ -450,7 +459,22 @@ fn lend(rest: &[u8], board: Board) -> Board {
     b
 }
 
-// What touches no area: the board after 'B', 'L', 'U' or 'P', and 'R', which looks for a frame.
+// 'U' and 'N': another used length, or another count of effective points.
+fn kept_by(rest: &[u8], kept: Kept) -> Kept {
+    let n = number(rest, 1, 8);
+    if byte_at(rest, 0) == 0x55 {
+        return Kept {
+            used: n,
+            effective: kept.effective,
+        };
+    }
+    Kept {
+        used: kept.used,
+        effective: n,
+    }
+}
+
+// What touches no area: the board after 'B', 'L', 'U', 'N' or 'P', and 'R', which looks for a frame.
 fn settle(rest: &[u8], board: Board) -> Board {
     let op = byte_at(rest, 0);
     if op == 0x42 {
@@ -460,8 +484,8 @@ fn settle(rest: &[u8], board: Board) -> Board {
         return lend(rest, board);
     }
     let mut b = board;
-    if op == 0x55 {
-        b.used = number(rest, 1, 8);
+    if op == 0x55 || op == 0x4E {
+        b.kept = kept_by(rest, board.kept);
     } else if op == 0x50 {
         b.settings = settings_at(rest, 1);
         b.firsts = firsts_at(rest, 5);
@@ -502,7 +526,7 @@ fn check_on(
     );
 }
 
-// 'F' and 'A': a frame, on what is lent; the used length.
+// 'F' and 'A': a frame, on what is lent; what is kept.
 fn frame_on(
     rest: &[u8],
     points: &mut [u8],
@@ -514,7 +538,7 @@ fn frame_on(
     axes: &[u8],
     board: Board,
     acts: bool,
-) -> usize {
+) -> Kept {
     let from = within(3, rest);
     let p = within(board.points, points);
     let c = within(board.columns, columns);
@@ -537,7 +561,7 @@ fn frame_on(
     )
 }
 
-// 'S': a step back, on what is lent; the used length.
+// 'S': a step back, on what is lent; what is kept.
 fn back_on(
     points: &mut [u8],
     columns: &mut [u8],
@@ -545,7 +569,7 @@ fn back_on(
     flags: &mut [u8],
     journal: &mut [u8],
     board: Board,
-) -> usize {
+) -> Kept {
     let p = within(board.points, points);
     let c = within(board.columns, columns);
     let i = within(board.integers, integers);
@@ -580,7 +604,7 @@ fn play(
         return b;
     }
     if op == 0x46 || op == 0x41 {
-        b.used = frame_on(
+        b.kept = frame_on(
             rest,
             points,
             columns,
@@ -595,7 +619,7 @@ fn play(
         return b;
     }
     if op == 0x53 {
-        b.used = back_on(points, columns, integers, flags, journal, board);
+        b.kept = back_on(points, columns, integers, flags, journal, board);
         return b;
     }
     settle(rest, board)
@@ -607,7 +631,7 @@ fn size(rest: &[u8]) -> usize {
     if op == 0x42 {
         return 15;
     }
-    if op == 0x55 {
+    if op == 0x55 || op == 0x4E {
         return 9;
     }
     if op == 0x50 {

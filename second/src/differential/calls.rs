@@ -4,7 +4,7 @@ use crate::areas::{Board, Firsts, Settings};
 use crate::frames::{self, Found};
 use crate::link::{self, Outcome, Shown};
 
-/// The areas that calls may write, and the used length handed over and handed back.
+/// The areas that calls may write, and the used length and the count handed over and handed back.
 pub struct Areas<'a> {
     pub points: &'a mut [u8],
     pub columns: &'a mut [u8],
@@ -12,6 +12,7 @@ pub struct Areas<'a> {
     pub flags: &'a mut [u8],
     pub journal: &'a mut [u8],
     pub used: usize,
+    pub effective: usize,
 }
 
 /// What the finder answers, as numbers: code 0 a frame, 1 nothing, 2 wait, 3 too long.
@@ -113,6 +114,7 @@ fn on_board<T>(areas: &mut Areas, call: impl FnOnce(&mut Board) -> T) -> T {
         flags: areas.flags.to_vec(),
         journal: areas.journal.to_vec(),
         used: areas.used,
+        effective: areas.effective,
     };
     let answer = call(&mut board);
     areas.points.copy_from_slice(&board.points);
@@ -121,5 +123,6 @@ fn on_board<T>(areas: &mut Areas, call: impl FnOnce(&mut Board) -> T) -> T {
     areas.flags.copy_from_slice(&board.flags);
     areas.journal.copy_from_slice(&board.journal);
     areas.used = board.used;
+    areas.effective = board.effective;
     answer
 }

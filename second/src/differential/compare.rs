@@ -41,6 +41,19 @@ pub enum Answer {
     Received(Finding),
 }
 
+impl Answer {
+    /// 0 or the refusal; the finder has none.
+    pub fn number(&self) -> Option<u16> {
+        match self {
+            Answer::Answered(Outcome { number, .. }) | Answer::Checked(Shown { number, .. }) => {
+                Some(*number)
+            }
+            Answer::SteppedBack(number) => Some(*number),
+            Answer::Received(_) => None,
+        }
+    }
+}
+
 /// How many areas a call has, with the bytes handed over.
 pub const PARTS: usize = 8;
 
@@ -96,7 +109,7 @@ pub fn dump(call: &Call, lent: &Lent) -> String {
         text,
         "fitted {fitted:02X} station {station:02X} release {release} unchecked {unchecked:02X}"
     );
-    let _ = writeln!(text, "used {}", lent.board.used);
+    let _ = writeln!(text, "used {} effective {}", lent.board.used, lent.board.effective);
     let _ = writeln!(text, "first integer {:04X} first flag {:04X}", firsts.integer, firsts.flag);
     for (name, bytes) in NAMES.into_iter().zip(parts(call, lent)) {
         dump_bytes(&mut text, name, bytes);
@@ -128,7 +141,7 @@ mod tests {
             reply: vec![0xEE; 33],
         };
         let text = dump(&Call::Answer { frame: b"!99".to_vec() }, &lent);
-        let settings = "fitted FF station 99 release 1 unchecked 01\nused 0\n";
+        let settings = "fitted FF station 99 release 1 unchecked 01\nused 0 effective 0\n";
         let firsts = "first integer 00C8 first flag 0258\n";
         let front = ["call: answer\n", settings, firsts, "handed bytes: 3 bytes\n"].concat();
         assert!(text.starts_with(&front));

@@ -35,6 +35,7 @@ pub fn lent(dice: &mut Dice) -> Lent {
         dice.fill(&mut lent.board.columns);
         dice.fill(&mut lent.board.integers);
         use_flags(dice, &mut lent.board.flags);
+        lent.board.effective = lent.board.effective_slots();
     }
     if dice.one_in(4) {
         let kinds = lent.kinds();
@@ -78,6 +79,27 @@ pub fn use_points(dice: &mut Dice, points: &mut [u8]) {
             4 => 0x40,
             _ => dice.byte(),
         };
+    }
+}
+
+/// A count that the slots haven't: one off, none, all, past all, or one of which only low bytes may be right.
+pub fn wrong_count(dice: &mut Dice, board: &Board) -> usize {
+    let (slots, points) = (board.effective_slots(), board.points.len() / SLOT);
+    let count = match dice.roll(10) {
+        0 => slots + 1,
+        1 => slots.wrapping_sub(1),
+        2 => 0,
+        3 => points,
+        4 => points + 1,
+        5 => dice.roll(points + 1),
+        6 => points + dice.between(1, 5_000),
+        7 => usize::MAX - dice.roll(3),
+        8 => slots | 1 << dice.pick(&[8, 11, 12, 16, 31, 32, 63]),
+        _ => dice.bits() as usize,
+    };
+    match count == slots {
+        true => slots + 1,
+        false => count,
     }
 }
 

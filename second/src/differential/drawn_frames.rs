@@ -109,6 +109,23 @@ pub fn odd_sc(dice: &mut Dice, lent: &Lent) -> Vec<u8> {
     frame
 }
 
+/// A frame of a message that looks at the count, now and then with a fault or another station.
+pub fn of_count(dice: &mut Dice, lent: &Lent) -> Vec<u8> {
+    let mut asking = match dice.roll(3) {
+        0 => Asking::plain(b"208", Vec::new()),
+        1 => point_write(dice, lent),
+        _ => Asking::points(b"246", points_named(dice, lent), Vec::new()),
+    };
+    if dice.one_in(3) {
+        fault(dice, lent, &mut asking);
+    }
+    let mut frame = closed(dice, lent.settings, &asking.text());
+    if dice.one_in(12) {
+        other_station(dice, &mut frame);
+    }
+    frame
+}
+
 /// A frame with one fault or more.
 pub fn damaged(dice: &mut Dice, lent: &Lent) -> Vec<u8> {
     match dice.roll(17) {

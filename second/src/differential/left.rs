@@ -23,6 +23,8 @@ pub struct Left {
     /// or start, length and drop; the others unset.
     pub out: [u64; OUT],
     pub used: u64,
+    /// The kept count of effective points.
+    pub effective: u64,
     pub areas: [AreaLeft; PARTS],
 }
 
@@ -53,7 +55,8 @@ impl Left {
         };
         let (old, new) = (parts(call, before), parts(call, after));
         let areas = std::array::from_fn(|part| AreaLeft::of(old[part], new[part]));
-        Left { number, out, used: after.board.used as u64, areas }
+        let (used, effective) = (after.board.used as u64, after.board.effective as u64);
+        Left { number, out, used, effective, areas }
     }
 
     /// The player's next one.
@@ -64,17 +67,18 @@ impl Left {
             *number = read_number(from, 8)?;
         }
         let used = read_number(from, 8)?;
+        let effective = read_number(from, 8)?;
         let mut areas = Vec::new();
         for _ in 0..PARTS {
             areas.push(AreaLeft::read(from)?);
         }
         let areas = areas.try_into().map_err(|_| io::Error::other("areas"))?;
-        Ok(Left { number, out, used, areas })
+        Ok(Left { number, out, used, effective, areas })
     }
 
     /// Says where this is not what was expected of a call that found `before`.
     pub fn differs(&self, expected: &Left, before: [&[u8]; PARTS]) -> String {
-        let Left { number, out, used, .. } = expected;
+        let Left { number, out, used, effective, .. } = expected;
         if self.number != *number {
             return format!("number is {}, expected {number}", self.number);
         }
@@ -83,6 +87,9 @@ impl Left {
         }
         if self.used != *used {
             return format!("used length is {}, expected {used}", self.used);
+        }
+        if self.effective != *effective {
+            return format!("count is {}, expected {effective}", self.effective);
         }
         for part in 0..PARTS {
             let (given, expected) = (&self.areas[part], &expected.areas[part]);

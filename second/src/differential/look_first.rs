@@ -127,10 +127,10 @@ fn written(message: u16, kinds: &Kinds) -> Option<Kind> {
     }
 }
 
-/// Whether no byte of the four areas is another but those of a held run.
+/// Whether no byte of the four areas is another but those of a held run; of the kept count nothing is said.
 fn changes_only(before: &Board, after: &Board, run: &Run) -> bool {
-    let Board { journal, used, .. } = after.clone();
-    let mut expected = Board { journal, used, ..before.clone() };
+    let Board { journal, used, effective, .. } = after.clone();
+    let mut expected = Board { journal, used, effective, ..before.clone() };
     let (area, place) = (run.kind.area, run.place());
     expected.area_mut(area)[place.clone()].copy_from_slice(&after.area(area)[place]);
     expected == *after

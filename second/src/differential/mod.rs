@@ -3,6 +3,7 @@
 
 pub mod calls;
 pub mod compare;
+pub mod count_places;
 pub mod dice;
 pub mod drawn_boards;
 pub mod drawn_frames;
@@ -10,6 +11,7 @@ pub mod drawn_letters;
 pub mod drawn_line;
 pub mod drawn_one_byte;
 pub mod drawn_test_calls;
+pub mod kept_count;
 pub mod left;
 pub mod letter_places;
 pub mod look_first;

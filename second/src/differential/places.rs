@@ -2,6 +2,7 @@
 
 use super::calls::Finding;
 use super::compare::{Answer, Call, Lent};
+use super::count_places::{self, of_count};
 use super::letter_places::{of_letters, LETTER_PLACES};
 use super::look_places::{self, of_check};
 use super::one_byte_places;
@@ -15,10 +16,11 @@ use crate::link::Outcome;
 /// All places a run must come by, besides numbers and messages.
 pub fn all() -> impl Iterator<Item = &'static str> {
     let of_calls = PLACES.into_iter().chain(LETTER_PLACES).chain(sum_places::all());
-    of_calls.chain(one_byte_places::all()).chain(look_places::all())
+    of_calls.chain(one_byte_places::all()).chain(look_places::all()).chain(count_places::all())
 }
 
-/// All but those of small letters, of what the sum test says, of one changed byte and of looking first.
+/// All but those of small letters, of what the sum test says, of one changed byte, of looking first and of
+/// the kept count.
 const PLACES: [&str; 60] = [
     "true SC accepted",
     "'@@' accepted",
@@ -87,7 +89,7 @@ pub type Place = (&'static str, bool);
 
 /// The places that one call came by; `before` and `after` are what was lent.
 pub fn reached(call: &Call, before: &Lent, after: &Lent, answer: Answer) -> Vec<&'static str> {
-    let mut places = Vec::new();
+    let mut places = of_count(call, before, after, answer);
     match (call, answer) {
         (Call::Answer { frame } | Call::Act { frame }, Answer::Answered(outcome)) => {
             places.extend(of_areas(before, outcome.number));

@@ -114,6 +114,7 @@ impl Line {
         let Settings { fitted, station, release, unchecked, firsts } = made.before.settings;
         let numbers = [
             (made.before.board.used as u64, 8),
+            (made.before.board.effective as u64, 8),
             (u64::from(fitted), 1),
             (u64::from(station), 1),
             (u64::from(release), 1),

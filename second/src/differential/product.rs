@@ -70,6 +70,7 @@ pub fn make_on(calls: &dyn Calls, call: &Call, lent: &mut Lent) -> Answer {
         flags: &mut board.flags,
         journal: &mut board.journal,
         used: board.used,
+        effective: board.effective,
     };
     let answer = match call {
         Call::Answer { frame } => {
@@ -82,7 +83,7 @@ pub fn make_on(calls: &dyn Calls, call: &Call, lent: &mut Lent) -> Answer {
         Call::StepBack => Answer::SteppedBack(calls.step_back(&mut areas, settings.firsts)),
         Call::Receive { received } => Answer::Received(calls.receive(received)),
     };
-    board.used = areas.used;
+    (board.used, board.effective) = (areas.used, areas.effective);
     answer
 }
 

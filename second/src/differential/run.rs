@@ -2,6 +2,7 @@
 
 use super::compare::{dump, parts, second, Answer, Call, Lent, Model};
 use super::dice::Dice;
+use super::kept_count;
 use super::look_first::{self, Looked};
 use super::one_byte;
 use super::product::{made, Difference, Made, Product};
@@ -103,7 +104,8 @@ struct Run<'a> {
 impl Run<'_> {
     /// One call or two, or several steps back; what is accepted stays for the next.
     fn next(&mut self, lent: &mut Lent) -> Result<(), Difference> {
-        match self.dice.roll(108) {
+        spoil::mend_count_at_last(&mut self.dice, lent);
+        match self.dice.roll(114) {
             0..=45 => {
                 let frame = drawn_frames::good(&mut self.dice, lent);
                 self.hand(frame, lent)
@@ -129,6 +131,7 @@ impl Run<'_> {
             83..=95 => self.spoiled(lent),
             96..=101 => self.one_byte(lent),
             102 | 103 => self.changed_between(lent),
+            104..=109 => self.miscounted(lent),
             _ => {
                 spoil::change(&mut self.dice, lent);
                 let frame = drawn_frames::good(&mut self.dice, lent);
@@ -208,6 +211,21 @@ impl Run<'_> {
         self.hand(frame, &mut copy)
     }
 
+    /// A call that looks at the count, on a copy with a wrong one, now and then spoiled besides.
+    fn miscounted(&mut self, lent: &Lent) -> Result<(), Difference> {
+        let mut copy = lent.clone();
+        spoil::wrong_count(&mut self.dice, &mut copy);
+        if self.dice.one_in(8) {
+            spoil::spoil(&mut self.dice, &mut copy);
+        }
+        if self.dice.one_in(5) {
+            self.make(Call::StepBack, &mut copy)?;
+            return Ok(());
+        }
+        let frame = drawn_frames::of_count(&mut self.dice, lent);
+        self.hand(frame, &mut copy)
+    }
+
     /// A frame with a true SC of which one byte is changed, now and then on a spoiled copy.
     fn one_byte(&mut self, lent: &mut Lent) -> Result<(), Difference> {
         let [unchanged, frame] = drawn_one_byte::one_byte(&mut self.dice, lent);
@@ -226,8 +244,8 @@ impl Run<'_> {
         self.make_from(None, call, lent)
     }
 
-    /// One call, and what the second program answered; where its frame was made from a frame with a true
-    /// SC, the rule of that is judged too.
+    /// One call, and what the second program answered, on which the rule of the kept count is judged; where
+    /// its frame was made from a frame with a true SC, the rule of that is judged too.
     fn make_from(
         &mut self,
         unchanged: Option<&[u8]>,
@@ -242,6 +260,8 @@ impl Run<'_> {
         let made = made(self.model, self.made, &call, &before, lent);
         self.product.make(&made)?;
         self.tally.count(&call, &before, made.after, made.answer);
+        let judged = kept_count::judged(&made);
+        judged.map_err(|how| Difference::Rule(kept_count::RULE, self.made, how))?;
         if let Some(unchanged) = unchanged {
             let judged = one_byte::judged(self.model, unchanged, &made);
             let judged = judged.map_err(|how| Difference::Rule(one_byte::RULE, self.made, how))?;

@@ -1,5 +1,5 @@
-//! Spoiled calls: wrong lengths, spoiled bytes, a spoiled used length, bad records, no fitted axis,
-//! first numbers that run past, a release that is none.
+//! Spoiled calls: wrong lengths, spoiled bytes, a spoiled used length, a wrong count, bad records, no fitted
+//! axis, first numbers that run past, a release that is none.
 
 use super::compare::Lent;
 use super::dice::Dice;
@@ -15,7 +15,7 @@ pub fn spoil(dice: &mut Dice, lent: &mut Lent) {
 }
 
 fn spoil_one(dice: &mut Dice, lent: &mut Lent) {
-    match dice.roll(27) {
+    match dice.roll(30) {
         0 | 1 => reply_length(dice, lent),
         2 | 3 => points_length(dice, lent),
         4 => columns_length(dice, lent),
@@ -30,28 +30,62 @@ fn spoil_one(dice: &mut Dice, lent: &mut Lent) {
         21 => lent.settings.firsts = drawn_boards::firsts_that_run_past(dice),
         22 => lent.settings.firsts = drawn_boards::firsts(dice),
         23..=25 => lent.settings.release = drawn_boards::wrong_release(dice),
+        26..=28 => wrong_count(dice, lent),
         _ => lent.settings.fitted = 0,
     }
 }
 
-/// Changes that leave the board sound: settings, records, old bytes, bytes beyond the used length.
+/// Changes that leave the board sound: settings, records, old bytes, bytes beyond the used length. The count
+/// is most often made true again where slots changed, and now and then it becomes a wrong one.
 pub fn change(dice: &mut Dice, lent: &mut Lent) {
     let used = lent.board.used.min(lent.board.journal.len());
-    match dice.roll(15) {
+    match dice.roll(18) {
         0 => lent.settings = other_settings(dice, lent),
         1 => lent.axes = drawn_boards::axes(dice),
         2 => lent.reply = drawn_boards::reply(dice),
-        3 => dice.spoil_byte(&mut lent.board.points),
+        3 => points_byte(dice, lent),
         4 => dice.spoil_byte(&mut lent.board.columns),
         5 => dice.spoil_byte(&mut lent.board.journal[used..]),
-        6 => drawn_boards::use_points(dice, &mut lent.board.points),
+        6 => other_points(dice, lent),
         7 => dice.spoil_byte(&mut lent.board.integers),
         8 => dice.spoil_byte(&mut lent.board.flags),
         9 => drawn_boards::use_flags(dice, &mut lent.board.flags),
         10 | 11 => lent.settings.release = other_release(lent.settings.release),
         12 | 13 => lent.settings.unchecked = drawn_boards::unchecked(dice),
+        14..=16 => wrong_count(dice, lent),
         _ => dice.spoil_byte(&mut lent.reply),
     }
+}
+
+fn points_byte(dice: &mut Dice, lent: &mut Lent) {
+    dice.spoil_byte(&mut lent.board.points);
+    mend_count_most_often(dice, lent);
+}
+
+fn other_points(dice: &mut Dice, lent: &mut Lent) {
+    drawn_boards::use_points(dice, &mut lent.board.points);
+    mend_count_most_often(dice, lent);
+}
+
+fn mend_count_most_often(dice: &mut Dice, lent: &mut Lent) {
+    if !dice.one_in(4) {
+        mend_count(lent);
+    }
+}
+
+/// A wrong count stays for a few calls: while it does, no points are written and nothing is stepped back.
+pub fn mend_count_at_last(dice: &mut Dice, lent: &mut Lent) {
+    if dice.one_in(4) {
+        mend_count(lent);
+    }
+}
+
+fn mend_count(lent: &mut Lent) {
+    lent.board.effective = lent.board.effective_slots();
+}
+
+pub fn wrong_count(dice: &mut Dice, lent: &mut Lent) {
+    lent.board.effective = drawn_boards::wrong_count(dice, &lent.board);
 }
 
 /// First numbers stay while entries may name the numbers that they give.
@@ -90,6 +124,9 @@ fn points_length(dice: &mut Dice, lent: &mut Lent) {
         _ => length + SLOT * dice.between(1, 2),
     };
     lent.board.points.resize(other, 0x01);
+    if dice.one_in(2) {
+        mend_count(lent);
+    }
 }
 
 fn columns_length(dice: &mut Dice, lent: &mut Lent) {

@@ -12,8 +12,9 @@ use crate::link::{sum_number, Outcome};
 type By = (u16, &'static str);
 
 /// The sum was true, and a later test refuses the frame.
-const TRUE_BY: [By; 9] = [
+const TRUE_BY: [By; 10] = [
     (8, "true SC refused by 8"),
+    (11, "true SC refused by 11"),
     (101, "true SC refused by 101"),
     (102, "true SC refused by 102"),
     (103, "true SC refused by 103"),
@@ -25,8 +26,9 @@ const TRUE_BY: [By; 9] = [
 ];
 
 /// The sum was switched off, which is allowed, and a later test refuses the frame.
-const MARKED_BY: [By; 9] = [
+const MARKED_BY: [By; 10] = [
     (8, "'@@' refused by 8"),
+    (11, "'@@' refused by 11"),
     (101, "'@@' refused by 101"),
     (102, "'@@' refused by 102"),
     (103, "'@@' refused by 103"),

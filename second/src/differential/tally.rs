@@ -14,13 +14,13 @@ use std::fmt;
 
 pub const MESSAGES: [&str; 12] =
     ["200", "208", "209", "20D", "20E", "210", "212", "244", "246", "24B", "24C", "24E"];
-const ANSWERS: [u16; 20] =
-    [0, 1, 2, 3, 10, 4, 5, 13, 6, 12, 7, 8, 101, 102, 103, 104, 105, 106, 107, 108];
+const ANSWERS: [u16; 21] =
+    [0, 1, 2, 3, 10, 4, 5, 13, 6, 12, 7, 8, 11, 101, 102, 103, 104, 105, 106, 107, 108];
 /// A check gives all of them but this.
 const OF_THE_REPLY: u16 = 1;
 /// What the sum test said, by its number.
 const SUMS: [&str; 4] = ["untested", "true", "switched off", "wrong"];
-const STEPS_BACK: [u16; 6] = [0, 2, 3, 10, 4, 9];
+const STEPS_BACK: [u16; 7] = [0, 2, 3, 10, 4, 11, 9];
 const FINDINGS: [&str; 4] = ["a frame", "nothing", "wait", "too long"];
 
 /// How often each number was given.

@@ -125,8 +125,10 @@ fn counts_and_lists(script: &mut Script) {
     // Slots as they are stored: an odd second byte, any pattern, and a pattern cleared by hand.
     script.spoil_run(Part::Points, 0, &[0x12; 40]);
     script.spoil(Part::Points, 81, 0x77);
+    script.effective(3);
     script.ask_all(&["208", "209001014"]);
     script.spoil(Part::Points, 0, 0x00);
+    script.effective(2);
     script.ask_all(&["208", "209001014"]);
     script.steps_back(3);
     script.board(255, 10_700);

@@ -1,5 +1,6 @@
 //! The cases of the product's `vectors` program and what it must write (format: README, "Vectors").
 
+mod count_cases;
 mod drawn_cases;
 mod fixed_cases;
 mod journal_cases;
@@ -31,6 +32,7 @@ pub fn stdin() -> Vec<u8> {
     sum_cases::add(&mut script);
     one_byte_cases::add(&mut script);
     look_cases::add(&mut script);
+    count_cases::add(&mut script);
     drawn_cases::add(&mut script);
     script.end()
 }
@@ -58,16 +60,16 @@ mod tests {
         // The product's program reads at most 163,840 bytes.
         assert!(stdin.len() < 163_840, "{} bytes", stdin.len());
         let lines = stdout.lines().count();
-        assert!((300..=2_500).contains(&lines), "{lines} lines");
+        assert!((300..=3_000).contains(&lines), "{lines} lines");
         let numbers = |letter: &str| -> BTreeSet<u16> {
             let lines = stdout.lines().filter_map(|line| line.strip_prefix(letter));
             lines.filter_map(|line| line.split(' ').next()?.parse().ok()).collect()
         };
-        let all: BTreeSet<u16> = (0..=8).chain([10, 12, 13]).chain(101..=108).collect();
+        let all: BTreeSet<u16> = (0..=8).chain(10..=13).chain(101..=108).collect();
         assert_eq!(numbers("F "), all);
         assert_eq!(numbers("A "), all);
         assert_eq!(numbers("C "), all.into_iter().filter(|&number| number != 1).collect());
-        assert_eq!(numbers("S "), BTreeSet::from([0, 2, 3, 4, 9, 10]));
+        assert_eq!(numbers("S "), BTreeSet::from([0, 2, 3, 4, 9, 10, 11]));
         assert_eq!(numbers("R "), BTreeSet::from([0, 1, 2, 3]));
     }
 
@@ -75,7 +77,7 @@ mod tests {
     fn the_vectors_reach_each_number_with_each_sum_that_goes_with_it() {
         let reached: BTreeSet<[u16; 2]> = both().1.lines().filter_map(number_and_sum).collect();
         let untested = [1, 2, 3, 4, 5, 6, 10, 13].map(|number| [number, 0]);
-        let later = [0, 8].into_iter().chain(101..=108);
+        let later = [0, 8, 11].into_iter().chain(101..=108);
         let tested = later.flat_map(|number| [[number, 1], [number, 2]]);
         let refused = [[7, 3], [12, 2]];
         assert_eq!(reached, tested.chain(untested).chain(refused).collect());
@@ -85,7 +87,7 @@ mod tests {
     fn number_and_sum(line: &str) -> Option<[u16; 2]> {
         let mut fields = line.strip_prefix("F ")?.split(' ');
         let number = fields.next()?.parse().ok()?;
-        let sum = fields.nth(2)?.parse().ok()?;
+        let sum = fields.nth(3)?.parse().ok()?;
         Some([number, sum])
     }
 }

@@ -29,6 +29,7 @@ struct Player<'a> {
     buffers: [Vec<u8>; PARTS],
     lent: [usize; PARTS],
     used: usize,
+    effective: usize,
     settings: Settings,
     text: String,
 }
@@ -40,6 +41,7 @@ impl Player<'_> {
             buffers: BUFFERS.map(|length| vec![0; length]),
             lent: [0; PARTS],
             used: 0,
+            effective: 0,
             settings: SETTINGS,
             text: String::new(),
         }
@@ -51,6 +53,7 @@ impl Player<'_> {
             b'B' => self.board(),
             b'X' => self.spoil(),
             b'U' => self.used = self.number(8) as usize,
+            b'N' => self.effective = self.number(8) as usize,
             b'L' => self.lend(),
             b'P' => self.change_settings(),
             b'F' => self.answer(),
@@ -86,6 +89,7 @@ impl Player<'_> {
         self.buffers[Part::Reply as usize].fill(0xEE);
         self.lent = [points, 700, 400, 300, journal, 1_024, 72];
         self.used = 0;
+        self.effective = 0;
         assert!(self.lent.iter().zip(BUFFERS).all(|(&lent, length)| lent <= length));
     }
 
@@ -125,6 +129,7 @@ impl Player<'_> {
             flags: self.lent(Part::Flags).to_vec(),
             journal: self.lent(Part::Journal).to_vec(),
             used: self.used,
+            effective: self.effective,
         }
     }
 
@@ -140,6 +145,7 @@ impl Player<'_> {
         self.lay(Part::Flags, &board.flags);
         self.lay(Part::Journal, &board.journal);
         self.used = board.used;
+        self.effective = board.effective;
     }
 
     fn answer(&mut self) {
@@ -160,7 +166,8 @@ impl Player<'_> {
         self.lay(Part::Reply, &reply);
         let Outcome { number, reply_length, sum } = outcome;
         let digests = [self.kept(), self.digest(Part::Reply)].concat();
-        self.write(format!("{letter} {number} {reply_length} {} {sum}{digests}", self.used));
+        let kept = self.kept_numbers();
+        self.write(format!("{letter} {number} {reply_length} {kept} {sum}{digests}"));
     }
 
     fn check(&mut self) {
@@ -180,13 +187,18 @@ impl Player<'_> {
         let mut board = self.board_lent();
         let number = link::step_back(&mut board, self.settings.firsts);
         self.lay_board(&board);
-        self.write(format!("S {number} {}{}", self.used, self.kept()));
+        self.write(format!("S {number} {}{}", self.kept_numbers(), self.kept()));
     }
 
     fn find(&mut self) {
         let length = self.number(2) as usize;
         let Finding { code, start, length, drop } = frames::find(&self.take(length)).into();
         self.write(format!("R {code} {start} {length} {drop}"));
+    }
+
+    /// The used length and the count of effective points.
+    fn kept_numbers(&self) -> String {
+        format!("{} {}", self.used, self.effective)
     }
 
     /// Digests of the areas that the board keeps.
@@ -263,12 +275,6 @@ mod tests {
         }
     }
 
-    /// A field of a line: this one where it begins with this letter, else the other.
-    fn field(line: &str, letter: char, at: usize, other: usize) -> &str {
-        let at = if line.starts_with(letter) { at } else { other };
-        line.split(' ').nth(at).unwrap_or("")
-    }
-
     #[test]
     fn a_small_script_by_hand() {
         let script = [
@@ -283,34 +289,43 @@ mod tests {
             b"R\x00\x03!\r\n",
             b"B\x00\x01\xFF\x99\x01\x01\x00\x00\x02\x1C\x00\xC8\x02\x58",
             b"C\x00\x10!99246001001@@\r\nA\x00\x10!99246001001@@\r\n",
-            b"C\x00\x10!99246001002@@\r\nA\x00\x10!99246001002@@\r\nE",
+            b"C\x00\x10!99246001002@@\r\nA\x00\x10!99246001002@@\r\n",
+            b"N\x00\x00\x00\x00\x00\x00\x00\x01F\x00\x0A!99208@@\r\n",
+            b"N\xFF\xFF\xFF\xFF\xFF\xFF\xFF\xFFF\x00\x0A!99208@@\r\nS",
+            b"B\x00\x01\xFF\x99\x01\x01\x00\x00\x02\x1C\x00\xC8\x02\x58SE",
         ]
         .concat();
         let text = play(&script);
         let lines: Vec<&str> = text.lines().collect();
-        assert_eq!(lines.len(), 12);
-        assert!(lines[0].starts_with("F 0 13 0 2 "));
-        assert_eq!(lines[0].split(' ').count(), 11);
-        assert!(lines[1].starts_with("F 8 0 0 1 "));
+        assert_eq!(lines.len(), 16);
+        assert!(lines[0].starts_with("F 0 13 0 0 2 "));
+        assert_eq!(lines[0].split(' ').count(), 12);
+        assert!(lines[1].starts_with("F 8 0 0 0 1 "));
         assert_eq!(lines[0].split(' ').next_back(), lines[1].split(' ').next_back());
-        assert!(lines[2].starts_with("F 12 0 0 2 "));
-        assert!(lines[3].starts_with("F 13 0 0 0 "));
-        assert!(lines[4].starts_with("S 10 0 "));
-        assert!(lines[5].starts_with("S 4 1 "));
-        assert_eq!(lines[5].split(' ').count(), 8);
-        assert!(lines[6].starts_with("S 2 1 00000000 "));
-        assert_ne!(lines[5].split(' ').nth(5), lines[6].split(' ').nth(5));
+        assert!(lines[2].starts_with("F 12 0 0 0 2 "));
+        assert!(lines[3].starts_with("F 13 0 0 0 0 "));
+        assert!(lines[4].starts_with("S 10 0 0 "));
+        assert!(lines[5].starts_with("S 4 1 0 "));
+        assert_eq!(lines[5].split(' ').count(), 9);
+        assert!(lines[6].starts_with("S 2 1 0 00000000 "));
+        assert_ne!(lines[5].split(' ').nth(6), lines[6].split(' ').nth(6));
         assert_eq!(lines[7], "R 0 0 3 3");
         assert!(lines[8].starts_with("C 0 582 1 1 2 "));
         assert_eq!(lines[8].split(' ').count(), 11);
-        assert!(lines[9].starts_with("A 0 10 45 2 "));
-        assert_eq!(lines[9].split(' ').count(), 11);
+        assert!(lines[9].starts_with("A 0 10 45 0 2 "));
+        assert_eq!(lines[9].split(' ').count(), 12);
         assert!(lines[10].starts_with("C 106 0 0 0 2 "));
-        assert!(lines[11].starts_with("A 106 10 45 2 "));
+        assert!(lines[11].starts_with("A 106 10 45 0 2 "));
         // The journal's digest: another after the act alone.
-        let journals: Vec<&str> = lines[8..].iter().map(|line| field(line, 'C', 10, 9)).collect();
+        let journals: Vec<Option<&str>> =
+            lines[8..12].iter().map(|line| line.split(' ').nth(10)).collect();
         assert_ne!(journals[0], journals[1]);
         assert_eq!(journals[1..], [journals[1]; 3]);
+        // A count that is set stays until a board is fresh.
+        assert!(lines[12].starts_with("F 0 13 45 1 2 "));
+        assert!(lines[13].starts_with("F 11 0 45 18446744073709551615 2 "));
+        assert!(lines[14].starts_with("S 11 45 18446744073709551615 "));
+        assert!(lines[15].starts_with("S 9 0 0 "));
         assert!(text.ends_with('\n'));
     }
 }

@@ -67,6 +67,12 @@ impl Script {
         self.bytes.extend(used.to_be_bytes());
     }
 
+    /// Sets the kept count of effective points.
+    pub fn effective(&mut self, effective: u64) {
+        self.bytes.push(b'N');
+        self.bytes.extend(effective.to_be_bytes());
+    }
+
     pub fn lend(&mut self, part: Part, length: u32) {
         self.bytes.extend([b'L', part as u8]);
         self.bytes.extend(length.to_be_bytes());

@@ -186,7 +186,8 @@ pub fn sound(
 ) -> Outcome {
     let parts = [&*areas.points, areas.columns, areas.integers, areas.flags, areas.journal];
     let [points, columns, integers, flags, journal] = &mut parts.map(<[u8]>::to_vec);
-    let mut copy = Areas { points, columns, integers, flags, journal, used: areas.used };
+    let (used, effective) = (areas.used, areas.effective);
+    let mut copy = Areas { points, columns, integers, flags, journal, used, effective };
     SecondProgram.answer(frame, &mut copy, axes, settings, &mut reply.to_vec())
 }
 

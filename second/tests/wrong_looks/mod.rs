@@ -319,7 +319,8 @@ impl Calls for Tests106Before105 {
     }
 }
 
-/// A board whose act goes by what the check of the same frame said, whatever changed since.
+/// A board whose act goes by what the check of the same frame said, whatever changed since; but not by 11, of
+/// which the rule of the kept count speaks.
 #[derive(Debug, Default)]
 pub struct GoesByTheCheck(RefCell<Option<(Vec<u8>, Shown)>>);
 
@@ -354,7 +355,9 @@ impl Calls for GoesByTheCheck {
         reply: &mut [u8],
     ) -> Outcome {
         match self.0.take() {
-            Some((checked, shown)) if checked == frame && (2..=13).contains(&shown.number) => {
+            Some((checked, shown))
+                if checked == frame && (2..=13).contains(&shown.number) && shown.number != 11 =>
+            {
                 let number = if reply.len() < 1_024 { 1 } else { shown.number };
                 let sum = if number == 1 { UNTESTED } else { shown.sum };
                 Outcome { number, reply_length: 0, sum }

@@ -13,7 +13,7 @@ areas s =
 
 -- the function's entry, from where the tests are passed
 abbrev start : tie.Else1 → tie.Start
-start g = g .before .before .before .before .before .before .before .before
+start g = g .before .before .before .before .before .before .before .before .before
 
 passed : (g : tie.Else1) → backRefusalOf (areas (start g)) ≡ 0
 passed g = back-first (areas (start g)) ∙ sym (g .before .back-refusal .ensures) ∙ g .if1 .left
@@ -24,8 +24,11 @@ back-refusal-requires c κs = search needs
 same-length : tie.Need-same-length
 same-length c = search needs
 
+same-length-2 : tie.Need-same-length-2
+same-length-2 c = search needs
+
 returns : tie.Need-returns
-returns c = let s = c .before .before .before .before .before .before .before .before in stepped-refused (areas s) _ (c .before .back-refusal .ensures ∙ sym (back-first (areas s))) (c .if1 .taken)
+returns c = let s = c .before .before .before .before .before .before .before .before .before in stepped-refused (areas s) _ (c .before .back-refusal .ensures ∙ sym (back-first (areas s))) (c .if1 .taken)
 
 held-in-requires : tie.Need-held-in-requires
 held-in-requires c κs = search needs
@@ -51,9 +54,6 @@ put-back-requires c κs = let g = c .before .before .before .before .before .bef
 remove-requires : tie.Need-remove-requires
 remove-requires c κs = let g = c .before .before .before .before .before .before .before .before .before .before .before .before .before .before .before .before .before .before .before in omega (arith, can-step-back (areas (start g)) (passed g) .journal .within, c .before .before .before .before .before .before .before .before .before .before .before .before .before .before .before .before .find-last .ensures .span)
 
-same-length-2 : tie.Need-same-length-2
-same-length-2 c = search needs
-
 same-length-3 : tie.Need-same-length-3
 same-length-3 c = search needs
 
@@ -66,11 +66,15 @@ same-length-5 c = search needs
 same-length-6 : tie.Need-same-length-6
 same-length-6 c = search needs
 
+same-length-7 : tie.Need-same-length-7
+same-length-7 c = search needs
+
 returns-2 : tie.Need-returns-2
-returns-2 c = let g = c .before .before .before .before .before .before .before .before .before .before .before .before .before .before .before .before .before .before .before .before .before .before in
-    stepped (areas (start g)) (passed g) (c .before .before .before .before .before .before .before .before .before .before .before .before .before .before .before .before .before .before .before .before .before .held-in .ensures) (c .before .before .before .before .before .before .before .before .before .before .before .before .before .before .before .before .before .before .before .find-last .ensures) (λ i. c .before .before .before .before .before .before .before .before .before .before .before .before .before .before .before .before .before .before .before .before .before .before .before .before .before .slice-known5 .given i .fits) _ _ _ _ _ _ refl refl
-    (c .before .before .before .before .before .before .before .before .before .before .before .before .put-back .ensures)
-    (c .before .before .remove .ensures)
+returns-2 c =
+    let g = c .before .before .before .before .before .before .before .before .before .before .before .before .before .before .before .before .before .before .before .before .before .before in
+    let p = c .before .before .before .before .before .before .before .before .before .before .before .before .put-back .ensures in
+    stepped (areas (start g)) (passed g) (c .before .before .before .before .before .before .before .before .before .before .before .before .before .before .before .before .before .before .before .before .before .held-in .ensures) (c .before .before .before .before .before .before .before .before .before .before .before .before .before .before .before .before .before .before .before .find-last .ensures)
+    (λ i. c .before .before .before .before .before .before .before .before .before .before .before .before .before .before .before .before .before .before .before .before .before .before .before .before .before .before .slice-known5 .given i .fits) _ _ _ _ _ _ refl refl (p .1) (p .0) (c .before .before .remove .ensures)
 
 pub step-back-spec : {M : Type 1} → statement M
 step-back-spec =
@@ -78,6 +82,7 @@ step-back-spec =
     (tie.spec
     back-refusal-requires
     same-length
+    same-length-2
     returns
     held-in-requires
     find-last-requires
@@ -87,9 +92,9 @@ step-back-spec =
     part-put-back-end
     put-back-requires
     remove-requires
-    same-length-2
     same-length-3
     same-length-4
     same-length-5
     same-length-6
+    same-length-7
     returns-2)

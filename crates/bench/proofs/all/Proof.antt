@@ -8,11 +8,11 @@ use Rattle.bench.proofs.all.Statement.{statement}
 use Rattle.bench.proofs.all.Tie as tie
 
 abbrev Inv-loop : tie.InvT-loop
-Inv-loop line₀ points₀ columns₀ integers₀ flags₀ journal₀ turns₀ have₀ used₀ line points columns integers flags journal turns have used =
+Inv-loop line₀ points₀ columns₀ integers₀ flags₀ journal₀ turns₀ have₀ kept₀ line points columns integers flags journal turns have kept =
     (have ≤ length line) × (length line ≡ length line₀) × (length points ≡ length points₀) × (length columns ≡ length columns₀) × (length integers ≡ length integers₀) × (length flags ≡ length flags₀) × (length journal ≡ length journal₀)
 
 abbrev μ-loop : tie.MeasureT-loop
-μ-loop line₀ points₀ columns₀ integers₀ flags₀ journal₀ turns₀ have₀ used₀ line points columns integers flags journal turns have used = turns
+μ-loop line₀ points₀ columns₀ integers₀ flags₀ journal₀ turns₀ have₀ kept₀ line points columns integers flags journal turns have kept = turns
 
 loop-holds : tie.Need-loop-holds Inv-loop μ-loop
 loop-holds c = search needs

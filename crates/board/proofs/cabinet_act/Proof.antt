@@ -36,7 +36,7 @@ same-length-6 c = search needs
 returns : tie.Need-returns
 returns c =
     coded (c .sum-code .ensures)
-    (rw (c .before .before .before .before .before .before .before .before .before .before .before .before .before .before .before .before .read-axes .ensures, c .before .before .before .before .before .before .before .before .before .before .before .before .before .before .before .before .before .before .before .before .before .before .before .settings-by .ensures) at (c .before .before .before .before .before .before .before .before .before .before .before .before .before .before .act .ensures))
+    (rw (c .before .before .before .before .before .before .before .before .before .before .before .before .before .before .before .before .read-axes .ensures, c .before .before .before .before .before .before .before .before .before .before .before .before .before .before .before .before .before .before .before .before .before .before .before .before .settings-by .ensures) at (c .before .before .before .before .before .before .before .before .before .before .before .before .before .before .act .ensures))
 
 pub cabinet-act-spec : {M : Type 1} → statement M
 cabinet-act-spec =

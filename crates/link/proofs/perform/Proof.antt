@@ -26,7 +26,7 @@ same-length-3 : tie.Need-same-length-3
 same-length-3 c = search needs
 
 returns : tie.Need-returns
-returns c = performed (c .before .before .before .before .before .before .before .before .before .before .before .before .before .before .before .before .before .before .before .pre) pointsTag refl (λ _. c .before .before .before .before .before .before .before .before .before .before .if1 .taken) (c .before .before .before .before .before .before .carry-out .ensures .0) (c .before .before .before .before .before .before .carry-out .ensures .1)
+returns c = performed (c .before .before .before .before .before .before .before .before .before .before .before .before .before .before .before .before .before .before .before .pre) pointsTag refl (λ _. c .before .before .before .before .before .before .before .before .before .before .if1 .taken) (c .before .before .before .before .before .before .carry-out .ensures .0) (c .before .before .before .before .before .before .carry-out .ensures .1 .0) (c .before .before .before .before .before .before .carry-out .ensures .1 .1)
 
 carry-out-requires-2 : tie.Need-carry-out-requires-2
 carry-out-requires-2 c κs = can-carry (c .before .before .before .before .before .before .before .before .before .before .before .before .before .pre) columnsTag refl (λ _. c .before .before .before .if2 .taken)
@@ -41,7 +41,7 @@ same-length-6 : tie.Need-same-length-6
 same-length-6 c = search needs
 
 returns-2 : tie.Need-returns-2
-returns-2 c = performed (c .before .before .before .before .before .before .before .before .before .before .before .before .before .before .before .before .before .before .before .before .pre) columnsTag refl (λ _. c .before .before .before .before .before .before .before .before .before .before .if2 .taken) (c .before .before .before .before .before .before .carry-out2 .ensures .0) (c .before .before .before .before .before .before .carry-out2 .ensures .1)
+returns-2 c = performed (c .before .before .before .before .before .before .before .before .before .before .before .before .before .before .before .before .before .before .before .before .pre) columnsTag refl (λ _. c .before .before .before .before .before .before .before .before .before .before .if2 .taken) (c .before .before .before .before .before .before .carry-out2 .ensures .0) (c .before .before .before .before .before .before .carry-out2 .ensures .1 .0) (c .before .before .before .before .before .before .carry-out2 .ensures .1 .1)
 
 carry-out-requires-3 : tie.Need-carry-out-requires-3
 carry-out-requires-3 c κs = can-carry (c .before .before .before .before .before .before .before .before .before .before .before .before .before .before .pre) integersTag refl (λ _. c .before .before .before .if3 .taken)
@@ -56,7 +56,7 @@ same-length-9 : tie.Need-same-length-9
 same-length-9 c = search needs
 
 returns-3 : tie.Need-returns-3
-returns-3 c = performed (c .before .before .before .before .before .before .before .before .before .before .before .before .before .before .before .before .before .before .before .before .before .pre) integersTag refl (λ _. c .before .before .before .before .before .before .before .before .before .before .if3 .taken) (c .before .before .before .before .before .before .carry-out3 .ensures .0) (c .before .before .before .before .before .before .carry-out3 .ensures .1)
+returns-3 c = performed (c .before .before .before .before .before .before .before .before .before .before .before .before .before .before .before .before .before .before .before .before .before .pre) integersTag refl (λ _. c .before .before .before .before .before .before .before .before .before .before .if3 .taken) (c .before .before .before .before .before .before .carry-out3 .ensures .0) (c .before .before .before .before .before .before .carry-out3 .ensures .1 .0) (c .before .before .before .before .before .before .carry-out3 .ensures .1 .1)
 
 carry-out-requires-4 : tie.Need-carry-out-requires-4
 carry-out-requires-4 c κs = can-carry (c .before .before .before .before .before .before .before .before .before .before .before .before .before .before .pre) flagsTag refl (last-kind (held (call (c .before .before .before .before .before .before .before .before .before .before .before .before .before .before))) _ (c .before .before .before .before .before .if1 .left) (c .before .before .before .before .if2 .left) (c .before .before .before .if3 .left))
@@ -71,7 +71,7 @@ same-length-12 : tie.Need-same-length-12
 same-length-12 c = search needs
 
 returns-4 : tie.Need-returns-4
-returns-4 c = performed (c .before .before .before .before .before .before .before .before .before .before .before .before .before .before .before .before .before .before .before .before .before .pre) flagsTag refl (last-kind (held (call (c .before .before .before .before .before .before .before .before .before .before .before .before .before .before .before .before .before .before .before .before .before))) _ (c .before .before .before .before .before .before .before .before .before .before .before .before .if1 .left) (c .before .before .before .before .before .before .before .before .before .before .before .if2 .left) (c .before .before .before .before .before .before .before .before .before .before .if3 .left)) (c .before .before .before .before .before .before .carry-out4 .ensures .0) (c .before .before .before .before .before .before .carry-out4 .ensures .1)
+returns-4 c = performed (c .before .before .before .before .before .before .before .before .before .before .before .before .before .before .before .before .before .before .before .before .before .pre) flagsTag refl (last-kind (held (call (c .before .before .before .before .before .before .before .before .before .before .before .before .before .before .before .before .before .before .before .before .before))) _ (c .before .before .before .before .before .before .before .before .before .before .before .before .if1 .left) (c .before .before .before .before .before .before .before .before .before .before .before .if2 .left) (c .before .before .before .before .before .before .before .before .before .before .if3 .left)) (c .before .before .before .before .before .before .carry-out4 .ensures .0) (c .before .before .before .before .before .before .carry-out4 .ensures .1 .0) (c .before .before .before .before .before .before .carry-out4 .ensures .1 .1)
 
 pub perform-spec : {M : Type 1} → statement M
 perform-spec =

@@ -1,12 +1,45 @@
+use Prim.Native.Nat.{ℕ, _+_, _-_}
+use mathlib.Core.Path.{ap₂, _∙_}
+use native.Mathlib.Omega.{arith}
+use Rattle.orders.proofs.Counting.{lies, lies-after, left}
 use borrow.Author.Needs.{needs}
 use Rattle.orders.proofs.carry_out.Statement.{statement}
 use Rattle.orders.proofs.carry_out.Tie as tie
 
+-- the function's entry, from behind what was stored
+abbrev start : tie.After-store → tie.Start
+start g = g .before .before .before .before .before .before .before .before .before .before .before .before .before .before
+
 say-requires : tie.Need-say-requires
 say-requires c κs = search needs
 
+count-named-requires : tie.Need-count-named-requires
+count-named-requires c κs =
+    let p = c .before .before .before .before .before .before .before .before .before .before .pre in
+    (p .0 .sound, lies (p .0))
+
 store-requires : tie.Need-store-requires
 store-requires c κs = search needs
+
+count-named-requires-2 : tie.Need-count-named-requires-2
+count-named-requires-2 c κs =
+    let g = c .before .before .before .before .before in
+    (start g .pre .0 .sound, lies-after (start g .pre .0) (start g .args .kept .effective) (start g .pre .3) (g .store .ensures))
+
+sub-t25 : tie.Need-sub-t25
+sub-t25 c =
+    let g = c .before .before .before .before .before .before .before in
+    omega (arith, left (start g .pre .0) (start g .args .kept .effective) (start g .pre .3) (g .store .ensures) .least, g .before .before .before .count-named .ensures)
+
+add-t26 : tie.Need-add-t26
+add-t26 c =
+    let g = c .before .before .before .before .before .before .before in
+    omega (
+      arith,
+      left (start g .pre .0) (start g .args .kept .effective) (start g .pre .3) (g .store .ensures) .most 18446744073709551615 (omega arith) (omega (arith, start g .pre .0 .sound .points)),
+      g .before .before .before .count-named .ensures,
+      c .before .count-named2 .ensures,
+    )
 
 same-length : tie.Need-same-length
 same-length c = search needs
@@ -18,14 +51,26 @@ same-length-3 : tie.Need-same-length-3
 same-length-3 c = search needs
 
 returns : tie.Need-returns
-returns c = (c .before .before .before .before .before .before .before .before .before .say .ensures, c .before .before .before .before .store .ensures)
+returns c =
+    let g = c .before .before .before .before .before .before .before in (
+      g .before .before .before .before .before .before .before .say .ensures,
+      (
+        g .store .ensures,
+        ap₂ (λ (b a : ℕ). start g .args .kept .effective - b + a) (g .before .before .before .count-named .ensures) (c .before .count-named2 .ensures)
+            ∙ left (start g .pre .0) (start g .args .kept .effective) (start g .pre .3) (g .store .ensures) .is,
+      ),
+    )
 
 pub carry-out-spec : {M : Type 1} → statement M
 carry-out-spec =
     tie.close
     (tie.spec
     say-requires
+    count-named-requires
     store-requires
+    count-named-requires-2
+    sub-t25
+    add-t26
     same-length
     same-length-2
     same-length-3

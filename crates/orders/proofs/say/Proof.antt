@@ -38,7 +38,7 @@ enum-told-2 : tie.Need-enum-told-2
 enum-told-2 c = search needs
 
 reply-count-requires : tie.Need-reply-count-requires
-reply-count-requires c κs = let r = c .before .before .before in let n = handling.count-needs (start r .pre .0) (c .before .enum-told2 .given .1) in (start r .pre .1, n .0, n .1)
+reply-count-requires c κs = search needs
 
 enum-told-3 : tie.Need-enum-told-3
 enum-told-3 c = search needs
@@ -115,13 +115,13 @@ same-length : tie.Need-same-length
 same-length c = search needs
 
 returns : tie.Need-returns
-returns c = let r = c .before .before .before .before .before .before in handling.says (start r .pre .0) (sent r) SayBack (c .before .before .before .before .enum-told .given .1) (ap (sameText (start r .args .order .message)) (r .rest-of .ensures)) (c .before .before .reply-same .ensures)
+returns c = let r = c .before .before .before .before .before .before in handling.says (start r .pre .0) (sent r) (start r .args .kept) SayBack (c .before .before .before .before .enum-told .given .1) (ap (sameText (start r .args .order .message)) (r .rest-of .ensures)) (c .before .before .reply-same .ensures)
 
 same-length-2 : tie.Need-same-length-2
 same-length-2 c = search needs
 
 returns-2 : tie.Need-returns-2
-returns-2 c = let r = c .before .before .before .before .before .before in handling.says (start r .pre .0) (sent r) CountPoints (c .before .before .before .before .enum-told2 .given .1) refl (c .before .before .reply-count .ensures)
+returns-2 c = let r = c .before .before .before .before .before .before in handling.says (start r .pre .0) (sent r) (start r .args .kept) CountPoints (c .before .before .before .before .enum-told2 .given .1) refl (c .before .before .reply-count .ensures)
 
 same-length-3 : tie.Need-same-length-3
 same-length-3 c = search needs
@@ -130,50 +130,50 @@ returns-3 : tie.Need-returns-3
 returns-3 c = let r = c .before .before .before .before .before .before .before .before in let d = c .before .before .before .before .before .before .enum-told3 .given .1 in
     let s = start r .args in
     let a = handling.list-at (start r .pre .0) d (r .before .kind .ensures) (c .before .before .before .before .before .place .ensures) in
-    handling.says (start r .pre .0) (sent r) ListPoints d (ap (listText (s .order .message) (s .order .start) (s .order .count)) (part-rest (s .area .now) _ ∙ ap (λ (x : ℕ). drop x (s .area .now)) a)) (c .before .before .reply-list .ensures)
+    handling.says (start r .pre .0) (sent r) (start r .args .kept) ListPoints d (ap (listText (s .order .message) (s .order .start) (s .order .count)) (part-rest (s .area .now) _ ∙ ap (λ (x : ℕ). drop x (s .area .now)) a)) (c .before .before .reply-list .ensures)
 
 same-length-4 : tie.Need-same-length-4
 same-length-4 c = search needs
 
 returns-4 : tie.Need-returns-4
-returns-4 c = let r = c .before .before .before .before .before .before in let s = start r .args in handling.says (start r .pre .0) (sent r) ReadRun (c .before .before .before .before .enum-told4 .given .1) (ap (λ (k : Kind). runText (s .order .message) k (s .order .start) (s .order .count) (s .area .now)) (r .before .kind .ensures)) (c .before .before .reply-run .ensures)
+returns-4 c = let r = c .before .before .before .before .before .before in let s = start r .args in handling.says (start r .pre .0) (sent r) (start r .args .kept) ReadRun (c .before .before .before .before .enum-told4 .given .1) (ap (λ (k : Kind). runText (s .order .message) k (s .order .start) (s .order .count) (s .area .now)) (r .before .kind .ensures)) (c .before .before .reply-run .ensures)
 
 same-length-5 : tie.Need-same-length-5
 same-length-5 c = search needs
 
 returns-5 : tie.Need-returns-5
 returns-5 c = let r = c .before .before .before .before .before .before .before .before .before in let s = start r .args in
-    handling.says (start r .pre .0) (sent r) AxisStatus (c .before .before .before .before .before .before .before .enum-told5 .given .1) (ap (λ (n : ℕ). axesText (s .order .message) (bitAnd n (s .settings .fitted)) (s .axes .records)) (c .before .before .before .before .before .before .number .ensures ∙ ap numberOf (r .rest-of .ensures))) (c .before .before .reply-axes .ensures)
+    handling.says (start r .pre .0) (sent r) (start r .args .kept) AxisStatus (c .before .before .before .before .before .before .before .enum-told5 .given .1) (ap (λ (n : ℕ). axesText (s .order .message) (bitAnd n (s .settings .fitted)) (s .axes .records)) (c .before .before .before .before .before .before .number .ensures ∙ ap numberOf (r .rest-of .ensures))) (c .before .before .reply-axes .ensures)
 
 same-length-6 : tie.Need-same-length-6
 same-length-6 c = search needs
 
 returns-6 : tie.Need-returns-6
-returns-6 c = let r = c .before .before .before .before .before .before in handling.says (start r .pre .0) (sent r) WritePoints (c .before .before .before .before .enum-told6 .given .1) refl (c .before .before .reply-head .ensures)
+returns-6 c = let r = c .before .before .before .before .before .before in handling.says (start r .pre .0) (sent r) (start r .args .kept) WritePoints (c .before .before .before .before .enum-told6 .given .1) refl (c .before .before .reply-head .ensures)
 
 same-length-7 : tie.Need-same-length-7
 same-length-7 c = search needs
 
 returns-7 : tie.Need-returns-7
-returns-7 c = let r = c .before .before .before .before .before .before in handling.says (start r .pre .0) (sent r) ClearRun (c .before .before .before .before .enum-told7 .given .1) refl (c .before .before .reply-head2 .ensures)
+returns-7 c = let r = c .before .before .before .before .before .before in handling.says (start r .pre .0) (sent r) (start r .args .kept) ClearRun (c .before .before .before .before .enum-told7 .given .1) refl (c .before .before .reply-head2 .ensures)
 
 same-length-8 : tie.Need-same-length-8
 same-length-8 c = search needs
 
 returns-8 : tie.Need-returns-8
-returns-8 c = let r = c .before .before .before .before .before .before in handling.says (start r .pre .0) (sent r) ChangeRun (c .before .before .before .before .enum-told8 .given .1) refl (c .before .before .reply-head3 .ensures)
+returns-8 c = let r = c .before .before .before .before .before .before in handling.says (start r .pre .0) (sent r) (start r .args .kept) ChangeRun (c .before .before .before .before .enum-told8 .given .1) refl (c .before .before .reply-head3 .ensures)
 
 same-length-9 : tie.Need-same-length-9
 same-length-9 c = search needs
 
 returns-9 : tie.Need-returns-9
-returns-9 c = let r = c .before .before .before .before .before .before in let s = start r .args in handling.says (start r .pre .0) (sent r) ShowFlags (c .before .before .before .before .enum-told9 .given .1) (ap (λ (k : Kind). flagsText (s .order .message) k (s .order .start) (s .order .count) (s .area .now)) (r .before .kind .ensures)) (c .before .before .reply-flags .ensures)
+returns-9 c = let r = c .before .before .before .before .before .before in let s = start r .args in handling.says (start r .pre .0) (sent r) (start r .args .kept) ShowFlags (c .before .before .before .before .enum-told9 .given .1) (ap (λ (k : Kind). flagsText (s .order .message) k (s .order .start) (s .order .count) (s .area .now)) (r .before .kind .ensures)) (c .before .before .reply-flags .ensures)
 
 same-length-10 : tie.Need-same-length-10
 same-length-10 c = search needs
 
 returns-10 : tie.Need-returns-10
-returns-10 c = let r = c .before .before .before .before .before .before in handling.says (start r .pre .0) (sent r) SetFlag (c .before .before .before .before .enum-told10 .given .1) refl (c .before .before .reply-head4 .ensures)
+returns-10 c = let r = c .before .before .before .before .before .before in handling.says (start r .pre .0) (sent r) (start r .args .kept) SetFlag (c .before .before .before .before .enum-told10 .given .1) refl (c .before .before .reply-head4 .ensures)
 
 pub say-spec : {M : Type 1} → statement M
 say-spec =

@@ -13,12 +13,6 @@ cast-put-number c = search needs
 put-number-requires : tie.Need-put-number-requires
 put-number-requires c κs = search needs
 
-count-effective-requires : tie.Need-count-effective-requires
-count-effective-requires c κs = search needs
-
-cast-put-number-2 : tie.Need-cast-put-number-2
-cast-put-number-2 c = search needs
-
 put-number-requires-2 : tie.Need-put-number-requires-2
 put-number-requires-2 c κs = search needs
 
@@ -30,12 +24,11 @@ same-length c = search needs
 
 returns : tie.Need-returns
 returns c =
-    let a = c .before .before .before .before .before .before .before .before .before .before .before .before .before .before .before .before .args in
+    let a = c .before .before .before .before .before .before .before .before .before .before .before .before .before .before .args in
     let d = a .reply .now in
-    let s = a .points .now in
     let k = c .before .before .close-reply .ensures in
-    let e = count-laid d _ _ s (a .m) (a .n) _ (omega arith) (c .before .before .before .before .before .before .before .count-effective .ensures) (c .before .before .before .before .before .before .before .before .before .before .before .put-number .ensures) (c .before .before .before .before .before .before .put-number2 .ensures) in
-    replied d _ _ (countText (a .m) (a .n) s) (a .station) 6 _ e refl (omega arith) (k .0) (k .1)
+    let e = count-laid d _ _ (a .m) (a .effective) (omega arith) (c .before .before .before .before .before .before .before .before .before .before .put-number .ensures) (c .before .before .before .before .before .before .put-number2 .ensures) in
+    replied d _ _ (countText (a .m) (a .effective)) (a .station) 6 _ e refl (omega arith) (k .0) (k .1)
 
 pub reply-count-spec : {M : Type 1} → statement M
 reply-count-spec =
@@ -43,8 +36,6 @@ reply-count-spec =
     (tie.spec
     cast-put-number
     put-number-requires
-    count-effective-requires
-    cast-put-number-2
     put-number-requires-2
     close-reply-requires
     same-length
