@@ -468,7 +468,7 @@ static int count_failed(const char *what)
     return 1;
 }
 
-/* Point 2 and then points 1 and 2, of axis 1; and what 208H replies. */
+/* Point 2 and then points 1 and 2, of axis 1; and both cleared. */
 static const char write_one[] = "!9924400200101001E001E00640000C350@@\r\n";
 static const char write_two[] = "!9924400100201001E001E00640000C35001001E001E00640000C350@@\r\n";
 static const char clear_two[] = "!9924600100252\r\n";

@@ -35,8 +35,8 @@
  *   reply      at least 1,024 bytes, where the reply is written.
  *
  * Beside the used length a second number is kept, the count of effective points: how many slots have a
- * pattern that isn't 00. The calls that write points keep it true, and 208H replies it without looking at a
- * slot. The calls that test it against the slots are 244H, 246H and the step back (refusal 11).
+ * pattern that isn't 00. 244H, 246H and the step back keep it true and test it against the slots first
+ * (refusal 11). 208H replies it without looking at a slot, and tests only that it isn't above N.
  *
  * Fresh is all zero bytes in points, columns, integers, flags and journal, used length 0 and count 0.
  *
@@ -495,8 +495,8 @@ uint16_t cabinet_step_back(uint8_t *points, size_t points_length,
  *   board.points = points;
  *   board.points_length = sizeof points;
  * Never by position: a later version may put a field anywhere. In a field added later zero is fresh, a
- * setting that is allowed, or the rule as it was before, so that a host which doesn't know the field stays
- * as it is.
+ * setting that is allowed, or the rule as it was before, so that a host which starts fresh and doesn't know
+ * the field stays as it is.
  */
 struct cabinet {
     /* lent areas ("The areas", "Ownership" above): set before the first call */

@@ -47,7 +47,8 @@ fn put_points_back(
     let before = count_run(points, k, start, count);
     restore(points, held.kind(Kind::POINTS), tag, start, old);
     let after = count_run(points, k, start, count);
-    effective - before + after
+    let others = effective - before;
+    others + after
 }
 
 // An entry's bytes put back into the area of its kind. The count of effective points then.

@@ -263,8 +263,8 @@ pub extern "C" fn cabinet_step_back(
         flag: first_flag,
     };
     let back = step_back(points, columns, integers, flags, journal, kept, firsts);
-    let after = back.kept;
-    *used = after.used;
-    *effective = after.effective;
+    let left = back.kept;
+    *used = left.used;
+    *effective = left.effective;
     back.number
 }

@@ -28,21 +28,22 @@ use Rattle.messages.proofs.Judged.{told}
 use Rattle.messages.proofs.Shapes.{Each, in-frame}
 use Rattle.calls.specs.Calls.{Areas, Call, Outcome, lengthsOf, entriesOf}
 use Rattle.calls.proofs.Tagged.{counted-after}
-use Rattle.refusals.specs.Refusals.{countTrue, countFits, miscounted, silentOf, backRefusalOf}
+use Rattle.refusals.specs.Refusals.{countTrue, countFits, miscounted, areaRows, silentOf, backRefusalOf}
 use Rattle.refusals.proofs.Rows.{areaNumber, area-rows, area-given, areas-pass, past-areas, ownBack, back-rows, sumNumber, earlyNumber, silent-is}
 use Rattle.orders.specs.Orders.{writes}
 use Rattle.orders.proofs.Judging.{not-so}
 use Rattle.link.specs.Answer.{held, asked, textOf, answerOf}
-use Rattle.link.proofs.Answering.{heard-answer, silent-answer}
+use Rattle.link.proofs.Answering.{accepted, heard-answer, silent-answer}
+use Rattle.link.proofs.Carrying.{ordered-message}
 use Rattle.back.specs.Back.{backOf}
 use Rattle.back.proofs.Backing.{can-step-back, accepted-back, back-first}
 use Rattle.back.proofs.Recounting.{length-after}
 use Rattle.demands.specs.History.{ours, effectiveOf, CountTrue, messageBy}
 use Rattle.demands.specs.Survive.{Accepted}
-use Rattle.demands.specs.KeptCount.{SameCount, wrongAt, idNamed, Eleven, ElevenBack, over, KeptCount}
-use Rattle.demands.proofs.Refused.{one-number, changes-nothing, askedNumber, wrong, past-eight, up-to-eight, by-eleven}
+use Rattle.demands.specs.KeptCount.{SameCount, wrongAt, idNamed, toFour, Eleven, ElevenBack, over, KeptCount}
+use Rattle.demands.proofs.Refused.{one-number, changes-nothing, one-reply, number-given, eight-other, askedNumber, wrong, past-eight, up-to-eight, by-eleven}
 use Rattle.demands.proofs.Commands.{counting, writing, clearing, row-of, rows, named, message-of}
-use Rattle.demands.proofs.Asking.{Took}
+use Rattle.demands.proofs.Asking.{Took, took}
 use Rattle.demands.proofs.Survived.{taken}
 use Rattle.demands.proofs.Written.{points-counted, count-given, areas-left}
 
@@ -103,12 +104,20 @@ wrong-is c = go (messageBy (c .sent)) refl
 eleven : (c : Call) → Eleven c (answerOf c)
 eleven c =
     record {
-      not-before = λ n. one-number .frame c ∙ up-to-eight c n;
+      not-before = λ n. (one-number .frame c ∙ up-to-eight c n, eight-other c);
       by-id = λ z. (
         λ e. sym (wrong-is c) ∙ by-eleven c (sym (one-number .frame c) ∙ e),
         λ w. one-number .frame c ∙ past-eight c z ∙ ap (λ (b : Bool). cond b 11 (askedNumber c)) (wrong-is c ∙ w),
       );
+      nothing-done = λ e. (one-reply .none c (λ z. omega (arith, z, e)) (omega (arith, e)), changes-nothing .frame c (λ z. omega (arith, z, e)));
     }
+
+-- what is tested of the areas never gives 11
+four-other : (a : Areas) → toFour a ≡ 11 → ⊥
+unfolding areaRows
+four-other a =
+    number-given (λ (k : ℕ). k ≡ 11 → ⊥) (areaRows (lengthsOf a) (a .journal) (a .kept)) (λ e. omega (arith, e))
+    (λ e. omega (arith, e), (λ e. omega (arith, e), (λ e. omega (arith, e), (λ e. omega (arith, e), tt))))
 
 -- the step back's number, behind the areas
 module _ (a : Areas) where
@@ -121,11 +130,12 @@ module _ (a : Areas) where
   eleven-back : ElevenBack a (backOf a)
   eleven-back =
       record {
-        not-before = λ n. number-is ∙ sym (area-given l (a .journal) (a .kept) _ n);
+        not-before = λ n. (number-is ∙ sym (area-given l (a .journal) (a .kept) _ n), four-other a);
         by-count = λ z.
             let p = areas-pass l (a .journal) (a .kept) (sym (area-rows l (a .journal) (a .kept)) ∙ z) .0 in
             let e = number-is ∙ past-areas l (a .journal) (a .kept) p (ownBack l (a .journal) (a .kept) (a .points)) in
             (λ q t. other (eqb (a .kept .used) 0) (sym (rw (eq-eqb _ _ t) at e) ∙ q), λ k. e ∙ wrong-count k);
+        nothing-done = λ e. (one-reply .back a, changes-nothing .back a (λ z. omega (arith, z, e)));
       }
     where
       other : (b : Bool) → _≡_ {A = ℕ} (cond b 9 0) 11 → ⊥
@@ -155,7 +165,7 @@ module _ (a : Areas) where
       ∙ ap (λ (n : ℕ). effectiveIn (n / 40) (puts (pointsOf h) last (a .points))) (sym long)
       ∙ sym (ap (λ (x : Outcome). effectiveOf (x .areas)) (accepted-back a z))
 
--- accepted writes of points, and accepted messages of any other ID
+-- accepted writes of points, and calls of any other ID
 of-row : {id : ℕ} (c : Call) (a : Accepted id c) (r : Message) → messageNumbered id ≡ Known r → a .message ≡ r
 of-row {id} c a r n = row-of (c .sent) id r (a .known) (a .named) n
 
@@ -165,16 +175,28 @@ points-written c a r n w t =
     let e = of-row c a r n in
     points-counted (a .message) c (taken c a) (ap (λ (m : Message). writes (m .does)) e ∙ w) (ap (λ (m : Message). m .tag) e ∙ t)
 
-others-given : (id : ℕ) (c : Call) → Accepted id c → (id ≡ 0x244 → ⊥) → (id ≡ 0x246 → ⊥) → SameCount (c .areas) (answerOf c .areas)
-others-given id c a w x = go (writes (a .message .does)) refl
+others-given : (c : Call) → (idNamed (messageBy (c .sent)) ≡ 0x244 → ⊥) → (idNamed (messageBy (c .sent)) ≡ 0x246 → ⊥)
+    → SameCount (c .areas) (answerOf c .areas)
+others-given c w x = go (eqb (answerOf c .number) 0) refl
   where
-    go : (b : Bool) → writes (a .message .does) ≡ b → SameCount (c .areas) (answerOf c .areas)
+    -- an accepted message of another ID writes no points
+    stays : (m : Message) (k : messageBy (c .sent) ≡ Known m) (t : Took m c) (b : Bool) → writes (m .does) ≡ b → SameCount (c .areas) (answerOf c .areas)
+    stays m k t true q =
+        count-given m c t q
+        (λ p.
+        ⊎-elim (λ e. w (ap idNamed k ∙ e)) (λ e. x (ap idNamed k ∙ e))
+        (in-frame OfPoints (c .sent .settings .release) (c .sent .frame) each-write k q p))
+    stays m k t false q = ap (λ (a : Areas). a .kept .effective) (areas-left m c t false q)
+
+    go : (b : Bool) → eqb (answerOf c .number) 0 ≡ b → SameCount (c .areas) (answerOf c .areas)
     go true q =
-        count-given (a .message) c (taken c a) q
-        (λ t.
-        ⊎-elim (λ e. w (sym (a .named) ∙ e)) (λ e. x (sym (a .named) ∙ e))
-        (in-frame OfPoints (c .sent .settings .release) (c .sent .frame) each-write (a .known) q t))
-    go false q = ap (λ (x : Areas). x .kept .effective) (areas-left (a .message) c (taken c a) false q)
+        let n = eqb-true _ _ q in
+        let a = accepted c n in
+        let k =
+        ordered-message c (record { message = a .message; start = a .start; count = a .count; held = held c })
+        (record { silent-0 = a .heard; held-is = refl; order = a .order }) in
+        stays (a .message) k (took (a .message) c k n) (writes (a .message .does)) refl
+    go false q = ap (λ (a : Areas). a .kept .effective) (changes-nothing .frame c (eqb-false _ _ q))
 
 -- 208H
 trusts : (c : Call) → Accepted 0x208 c

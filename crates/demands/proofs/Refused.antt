@@ -98,7 +98,7 @@ number-given P [] z h = z
 number-given P (r ∷ rs) z h = either P (r .holds) (λ _. h .0) (λ _. number-given P rs z (h .1))
 
 -- 11 is given only where the count is wrong, and where no test up to 8 refuses
-eight-other : (c : Call) → toEight c ≡ 11 → ⊥
+pub eight-other : (c : Call) → toEight c ≡ 11 → ⊥
 unfolding checkRows areaRows lateRows
 eight-other c =
     number-given (λ (k : ℕ). k ≡ 11 → ⊥) (early c ++ lateRows (c .sent .settings) (c .sent .frame)) (λ e. omega (arith, e)) (

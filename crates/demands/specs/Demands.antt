@@ -47,7 +47,7 @@ pub record Demand2 : Type 0 where
   pub kept-count : KeptCount ours
 
 -- "After any sequence of frames and steps back, points and columns are exactly what the accepted writes not taken back would leave"; "all four kinds"
--- (02, a)
+-- (02, a), and the count that is kept true (02, b)
 abbrev pub Demand3 : Type 0
 Demand3 = EveryHistory ours
 

@@ -3,7 +3,7 @@ use Prim.Native.Nat.{ℕ, _<_}
 use mathlib.Core.Path.{_≡_}
 use mathlib.Core.Logic.{_↔_}
 use mathlib.Core.Bool.{Bool, true, false, cond, not, _||_}
-use mathlib.Core.List.{List, _++_}
+use mathlib.Core.List.{List, [], _++_}
 use lib.Dec.{eqb, ltb}
 use lib.ListN.{length, getD}
 use Rattle.digits.specs.Digits.{digitsOf}
@@ -40,15 +40,17 @@ toEight c = firstOf (early c ++ lateRows (c .sent .settings) (c .sent .frame))
 abbrev pub toFour : Areas → ℕ
 toFour a = firstOf (areaRows (lengthsOf a) (a .journal) (a .kept))
 
--- 11 "tested after 8"
+-- "11, no reply, tested after 8": where something up to 8 refuses, and that is never 11, it is the number
 pub record Eleven (c : Call) (o : Outcome) : Type 0 where
-  pub not-before : (toEight c ≡ 0 → ⊥) → o .number ≡ toEight c
+  pub not-before : (toEight c ≡ 0 → ⊥) → (o .number ≡ toEight c) × (toEight c ≡ 11 → ⊥)
   pub by-id : toEight c ≡ 0 → (o .number ≡ 11) ↔ (wrongAt (idNamed (messageBy (c .sent))) (c .areas) ≡ true)
+  pub nothing-done : o .number ≡ 11 → (o .text ≡ []) × (o .areas ≡ c .areas)
 
 -- "or after 4 in a step back", of an entry of any kind
 pub record ElevenBack (a : Areas) (o : Outcome) : Type 0 where
-  pub not-before : (toFour a ≡ 0 → ⊥) → o .number ≡ toFour a
+  pub not-before : (toFour a ≡ 0 → ⊥) → (o .number ≡ toFour a) × (toFour a ≡ 11 → ⊥)
   pub by-count : toFour a ≡ 0 → (o .number ≡ 11) ↔ (CountTrue a → ⊥)
+  pub nothing-done : o .number ≡ 11 → (o .text ≡ []) × (o .areas ≡ a)
 
 -- a call over areas with these slots
 abbrev pub over : List ℕ → Call → Call
@@ -64,7 +66,8 @@ pub record KeptCount (board : Conduct) : Type 0 where
   pub stepped : (a : Areas) → ((i : ℕ) → getD (a .journal) i 0 < 256) → board .back a .number ≡ 0 → CountTrue (board .back a .areas)
   -- "Any other call, and any refused one, hands back the count given."
   pub other :
-      (id : ℕ) (c : Call) → Accepted id c → (id ≡ 0x244 → ⊥) → (id ≡ 0x246 → ⊥) → SameCount (c .areas) (board .answer c .areas)
+      (c : Call) → (idNamed (messageBy (c .sent)) ≡ 0x244 → ⊥) → (idNamed (messageBy (c .sent)) ≡ 0x246 → ⊥)
+      → SameCount (c .areas) (board .answer c .areas)
   pub refused : (c : Call) → (board .answer c .number ≡ 0 → ⊥) → SameCount (c .areas) (board .answer c .areas)
   pub refused-back : (a : Areas) → (board .back a .number ≡ 0 → ⊥) → SameCount a (board .back a .areas)
   -- "Only 208H trusts the kept count": it replies that, "and no walk": whatever stands in the slots

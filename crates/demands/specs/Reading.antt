@@ -203,8 +203,9 @@ RunTold board a id tag =
     (start count : ℕ) → 1 ≤ count → count ≤ 255 → holds (kindIn tag a) start count ≡ true
     → Says board a (asksRun id start count) (asksRun id start count ++ digitsIn (runOf (kindIn tag a) start count (areaIn tag a)))
 
--- what is told of all that is held, whoever wrote it ("Each message"; 02, a): 208H the number of effective points, "with a count that is true" (02, b), 209H of any points lists those among
--- them, as many leading ones as fit, 210H of any columns and 20EH of any integers say two digits for each byte, 20DH of any flags shows each eight
+-- what is told of all that is held, whoever wrote it ("Each message"; 02, a): 208H the number of effective points, "with a count that is true" (02, b),
+-- 209H of any points lists those among them, as many leading ones as fit, 210H of any columns and 20EH of any integers say two digits for each byte, 20DH
+-- of any flags shows each eight
 pub record Tells (board : Conduct) (a : Areas) : Type 0 where
   pub counted : CountTrue a → Says board a (text "208") (text "208" ++ digitsOf 3 (effectiveOf a))
   pub listed :

@@ -21,8 +21,8 @@ pub record OneNumber : Type 0 where
   pub frame : (c : Call) → answerOf c .number ≡ refusalOf c
   pub back : (a : Areas) → backOf a .number ≡ backRefusalOf a
 
--- a frame's numbers ("Refusal numbers"; 02, a, b, f and l): "An accepted call has number 0", 1 to 8 and 10 to 13 come without a reply, 101 to 108 with the
--- error reply
+-- a frame's numbers ("Refusal numbers"; 02, a, b, f and l): "An accepted call has number 0", 1 to 8 and 10 to 13 come without a reply, 101 to 108 with
+-- the error reply
 abbrev pub frameNumbers : List ℕ
 frameNumbers = 0 ∷ 1 ∷ 2 ∷ 3 ∷ 10 ∷ 4 ∷ 5 ∷ 13 ∷ 6 ∷ 12 ∷ 7 ∷ 8 ∷ 11 ∷ 101 ∷ 102 ∷ 103 ∷ 104 ∷ 105 ∷ 106 ∷ 107 ∷ 108 ∷ []
 

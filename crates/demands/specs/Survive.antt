@@ -72,7 +72,7 @@ pub record EveryDigitSurvives (board : Conduct) : Type 0 where
   -- by the very next call after an accepted one, over any areas
   pub next : (id : ℕ) (c : Call) (a : Accepted id c) → Reads board (board .answer c .areas) (a .message) (c .sent) []
   pub tells : (id : ℕ) (c : Call) → Accepted id c → Tells board (board .answer c .areas)
-  -- "with a count that is true" (02, b): an accepted call leaves such a count true
+  -- "with a count that is true" (02, b): an accepted call leaves such a count true, so that no board has its count invented by handing on another
   pub count-kept : (id : ℕ) (c : Call) → Accepted id c → CountTrue (c .areas) → CountTrue (board .answer c .areas)
   -- a 244H's points are new, a 246H's are none
   pub written-once : (c : Call) (a : Accepted 0x244 c) → Once board (a .message) c (countOf (a .message) (c .sent))

@@ -22,12 +22,12 @@ use Rattle.messages.proofs.Shapes.{Shape}
 use Rattle.refusals.specs.Refusals.{countFits}
 use Rattle.orders.specs.Orders.{writes, newBytes}
 use Rattle.orders.specs.declared.Order.{Order}
-use Rattle.orders.specs.Contract.{kindIn, Ordered, Stores, Lies, countNamed, countLeft}
+use Rattle.orders.specs.Contract.{kindIn, Ordered, Stores, Within, countNamed, countLeft}
 use Rattle.orders.proofs.Judging.{Writable, writable, not-so}
 use Rattle.orders.proofs.Handling.{content}
 
 -- where the slots that are named stand
-pub run-counts : (x : Order) (area : List ℕ) {k : Kind} → Sound (x .held) → Lies x area → writes (x .message .does) ≡ true → k ≡ kindIn x → k .tag ≡ pointsTag
+pub run-counts : (x : Order) (area : List ℕ) {k : Kind} → Sound (x .held) → Within x area → writes (x .message .does) ≡ true → k ≡ kindIn x → k .tag ≡ pointsTag
     → (k .unit ≡ 40) × (k .first ≤ x .start) × (x .count ≤ 1500) × (placeOf k (x .start) + x .count * 40 ≤ length area)
 run-counts x area s l w e t =
     let p = own-points (x .held) (x .message .tag) (ap (λ (k : Kind). k .tag) (sym e) ∙ t) in
@@ -47,8 +47,8 @@ module _ {x : Order} {frame area : List ℕ} (o : Ordered x frame area) where
   abbrev run-of : writes (x .message .does) ≡ true → Writable (x .held) (contentIn frame) (x .message) (x .start) (x .count)
   run-of w = writable (x .held) (contentIn frame) (x .message) (x .start) (x .count) (content o) w
 
-  pub lies : Lies x area
-  lies w =
+  pub run-within : Within x area
+  run-within w =
       let n = run-of w .run in
       (n .held-all, o .area-long (omega (arith, few (kindIn x) (x .start) (x .count) (n .held-all), n .some)))
 
@@ -108,7 +108,7 @@ module _ {x : Order} {frame area : List ℕ} (o : Ordered x frame area) where
           recounted (x .held) (x .message .tag) (x .start) (x .count) effective new area area′
           (λ t.
           let k = ap (kindOf (x .held)) t ∙ kind-points (x .held) in
-          let l = lies w in
+          let l = run-within w in
           let long : length area ≡ x .held .points * 40 = l .1 ∙ ap sizeOf k in
           record {
             counted = counted w t long;
@@ -119,9 +119,9 @@ module _ {x : Order} {frame area : List ℕ} (o : Ordered x frame area) where
           })
 
       -- the run that was named lies there still
-      pub lies-after : Lies x area′
-      lies-after w =
-          let l = lies w in
+      pub run-within-after : Within x area′
+      run-within-after w =
+          let l = run-within w in
           let n = run-of w in
           let h = run (kindIn x) (x .start) (x .count) new area (n .long) (omega (arith, n .long, l .1, room (kindIn x) (x .start) (x .count) (l .0))) .as-long in
           (l .0, ap length (p .wrote w .put-there) ∙ h ∙ l .1)

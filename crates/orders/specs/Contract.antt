@@ -1,4 +1,4 @@
--- What carrying an order out needs, and what it leaves of the reply area, of the area of the message's kind and of the journal.
+-- What carrying an order out needs, and what it leaves of the reply area, of the area of the message's kind, of the journal and of the count.
 use Prim.Native.Nat.{ℕ, _≤_}
 use mathlib.Core.Path.{_≡_}
 use mathlib.Core.Bool.{true, false, cond}
@@ -46,8 +46,8 @@ pub record Stores (o : Order) (frame area area′ journal journal′ : List ℕ)
   pub stayed : writes (o .message .does) ≡ false → (area′ ≡ area) × (journal′ ≡ journal) × (used′ ≡ used)
 
 -- the run that a write names lies in its area
-abbrev pub Lies : Order → List ℕ → Type 0
-Lies o area = writes (o .message .does) ≡ true → (holds (kindIn o) (o .start) (o .count) ≡ true) × (length area ≡ sizeOf (kindIn o))
+abbrev pub Within : Order → List ℕ → Type 0
+Within o area = writes (o .message .does) ≡ true → (holds (kindIn o) (o .start) (o .count) ≡ true) × (length area ≡ sizeOf (kindIn o))
 
 -- the effective slots that a write names; a query writes none
 abbrev pub countNamed : Order → List ℕ → ℕ

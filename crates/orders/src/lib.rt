@@ -28,7 +28,7 @@ ghost use Rattle.table.specs.Table.{fieldsOf, restIn, Narrow};
 ghost use Rattle.calls.specs.Calls.{sentOf};
 ghost use Rattle.refusals.specs.Refusals.{countFits, journalFits};
 ghost use Rattle.orders.specs.Orders.{writes};
-ghost use Rattle.orders.specs.Contract.{Ordered, Says, Stores, Lies, countNamed, countLeft};
+ghost use Rattle.orders.specs.Contract.{Ordered, Says, Stores, Within, countNamed, countLeft};
 
 // What a frame orders of a board that holds so much: a message, with its start number and count.
 pub struct Order {
@@ -142,7 +142,7 @@ fn is_write(does: Action) -> bool
 
 // How many effective slots a write names: those of its run as they stand; a query, or a write of another kind, names none.
 fn count_named(order: Order, area: &[u8]) -> usize
-    requires { ⌜ Sound (order .held) × Lies order (now area) ⌝ }
+    requires { ⌜ Sound (order .held) × Within order (now area) ⌝ }
     ensures { λ r. ⌜ r ≡ countNamed order (now (area .entry)) ⌝ }
 {
     let m = order.message;
@@ -177,11 +177,10 @@ pub fn carry_out(
     let before = count_named(order, area);
     let used = store(order, frame, area, journal, kept.used);
     let after = count_named(order, area);
+    let others = kept.effective - before;
+    let effective = others + after;
     Done {
         length,
-        kept: Kept {
-            used,
-            effective: kept.effective - before + after,
-        },
+        kept: Kept { used, effective },
     }
 }

@@ -82,7 +82,7 @@ pointIn slot =
       positions = positionsIn 8 (drop 8 slot);
     }
 
--- "208H counts slots with a non-zero pattern"
+-- "slots with a non-zero pattern" ("Each message", 208H; 02, b), how many of so many
 unfoldable pub effectiveIn : ℕ → List ℕ → ℕ
 effectiveIn zero area = 0
 effectiveIn (suc n) area = cond (eqb (getD area 0 0) 0) 0 1 + effectiveIn n (drop 40 area)

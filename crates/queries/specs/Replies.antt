@@ -1,4 +1,5 @@
--- Document 01, "Each message": what a normal reply says after its station; source document 000, sections 4-3-2, 4-3-4, 4-3-5 and 4-3-12.
+-- Document 01, "Each message", and document 02, request b: what a normal reply says after its station; source document 000, sections 4-3-2, 4-3-4, 4-3-5
+-- and 4-3-12.
 use Prim.Native.Nat.{ℕ}
 use mathlib.Core.List.{List, [], _∷_, _++_}
 use lib.ListN.{length, getD}

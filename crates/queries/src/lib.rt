@@ -1,4 +1,4 @@
-// The replies to 200H, 208H, 209H and 212H, laid into the lent reply area (document 01, "Each message").
+// The replies to 200H, 208H, 209H and 212H, laid into the lent reply area (document 01, "Each message"; document 02, b).
 use areas::runs::put_run;
 use axes::AxisRecord;
 use digits::put_number;

@@ -22,7 +22,7 @@ use Rattle.kinds.specs.declared.Lengths.{Lengths}
 use Rattle.kinds.specs.Kinds.{heldIn}
 use Rattle.calls.specs.Calls.{Call, lengthsOf}
 use Rattle.refusals.proofs.Tested.{shaped-long}
-use Rattle.refusals.specs.Refusals.{pointsFit, variablesFit, journalFits, axesFit, releaseFits, countTrue, miscounted, areaRows, checkRows, lateRows, countRows, tooShort, silentOf, early, toldAfter, toldOf, refusalOf, backRows}
+use Rattle.refusals.specs.Refusals.{pointsFit, variablesFit, journalFits, axesFit, releaseFits, countTrue, miscounted, areaRows, checkRows, lateRows, countRows, rowsFromSum, tooShort, silentOf, early, toldAfter, toldOf, refusalOf, backRows}
 
 -- the areas' four, in the order tested, and what comes behind them
 abbrev pub four : Bool → Bool → Bool → Bool → ℕ → ℕ
@@ -137,7 +137,7 @@ module _ (settings : Settings) (frame points : List ℕ) (kept : Kept) where
   abbrev pub lateNumber : ℕ → ℕ
   lateNumber k = sumNumber settings frame (cond wrongCount 11 k)
 
-  pub late-rows : firstOf (lateRows settings frame ++ countRows settings frame points kept) ≡ lateNumber 0
+  pub late-rows : firstOf (rowsFromSum settings frame points kept) ≡ lateNumber 0
   unfolding lateRows countRows
   late-rows = refl
 
@@ -250,7 +250,7 @@ module _ (frame : List ℕ) (axes : Axes) (settings : Settings) (lengths : Lengt
   unfolding checkRows areaRows
   check-rows = refl
 
-  pub checked-rows : (points : List ℕ) → firstOf (checkRows frame axes settings lengths journal kept ++ (lateRows settings frame ++ countRows settings frame points kept))
+  pub checked-rows : (points : List ℕ) → firstOf (checkRows frame axes settings lengths journal kept ++ (rowsFromSum settings frame points kept))
       ≡ silentNumber 1024 frame axes settings lengths journal kept points 0
   unfolding checkRows areaRows lateRows countRows
   checked-rows points = refl
@@ -358,7 +358,7 @@ module _ (l : Lengths) (j : List ℕ) (kept : Kept) where
 
     -- behind them stand the sum, the station and the count
     pub silent-early : (points : List ℕ) {n : ℕ} → n ≡ firstOf (checkRows frame axes settings l j kept) → (n ≡ 0 → ⊥)
-        → n ≡ firstOf (checkRows frame axes settings l j kept ++ (lateRows settings frame ++ countRows settings frame points kept))
+        → n ≡ firstOf (checkRows frame axes settings l j kept ++ (rowsFromSum settings frame points kept))
     silent-early points e f =
         let q = e ∙ check-rows frame axes settings l j kept in
         q ∙ sym (checked-rows frame axes settings l j kept points ∙ early-given 1024 frame axes settings l j kept _ (λ z. f (q ∙ z)) .0)
@@ -374,8 +374,8 @@ module _ (l : Lengths) (j : List ℕ) (kept : Kept) where
         pub silent-points : l .points ≡ length points → pointsFit (length points) ≡ true
         silent-points h = rw h at (none-early .areas .points)
 
-        pub silent-late : {n : ℕ} → n ≡ firstOf (lateRows settings frame ++ countRows settings frame points kept)
-            → n ≡ firstOf (checkRows frame axes settings l j kept ++ (lateRows settings frame ++ countRows settings frame points kept))
+        pub silent-late : {n : ℕ} → n ≡ firstOf (rowsFromSum settings frame points kept)
+            → n ≡ firstOf (checkRows frame axes settings l j kept ++ (rowsFromSum settings frame points kept))
         silent-late g =
             g ∙ late-rows settings frame points kept
             ∙ sym (checked-rows frame axes settings l j kept points ∙ past-early 1024 frame axes settings l j kept none-early _)
@@ -383,7 +383,7 @@ module _ (l : Lengths) (j : List ℕ) (kept : Kept) where
 -- the tests of the sum, the station and the count, by what the sum test said
 module _ (settings : Settings) (frame points : List ℕ) (kept : Kept) where
   pub late-by : (s : Sum) → s ≡ sumSaid (settings .release) frame
-      → firstOf (lateRows settings frame ++ countRows settings frame points kept)
+      → firstOf (rowsFromSum settings frame points kept)
       ≡ cond (isOff s && not (settings .unchecked)) 12
       (cond (isWrong s) 7
       (cond (not (stationPasses (settings .release) (settings .station) frame)) 8 (cond (wrongCount settings frame points kept) 11 0)))

@@ -63,7 +63,7 @@ axesFit axes fitted = axes .eight && (recordsFit (axes .records) && not (eqb fit
 unfoldable pub releaseFits : ℕ → Bool
 releaseFits release = eqb release 1 || eqb release 2
 
--- 11, not: a true count "always equals the count of slots with a non-zero pattern" (02, b)
+-- 11: not "a kept count that differs from the slots"; a true one "always equals the count of slots with a non-zero pattern" (02, b)
 abbrev pub countTrue : List ℕ → ℕ → Bool
 countTrue points effective = eqb effective (effectiveIn (length points / 40) points)
 
@@ -116,6 +116,10 @@ lateRows settings frame =
 unfoldable pub countRows : Settings → List ℕ → List ℕ → Kept → List Row
 countRows settings frame points kept = (11 when (miscounted (messageOf (settings .release) frame) points (kept .effective))) ∷ []
 
+-- from the sum on: 12, 7, 8, then 11
+abbrev pub rowsFromSum : Settings → List ℕ → List ℕ → Kept → List Row
+rowsFromSum settings frame points kept = lateRows settings frame ++ countRows settings frame points kept
+
 -- those of a call before the sum is tested, by a check and, with 1 before them, by an answer and an act
 abbrev pub checkEarly : Call → List Row
 checkEarly c = checkRows (c .sent .frame) (c .sent .axes) (c .sent .settings) (lengthsOf (c .areas)) (c .areas .journal) (c .areas .kept)
@@ -125,7 +129,7 @@ early c = (1 when (tooShort (length (c .sent .reply)))) ∷ checkEarly c
 
 -- those from the sum on
 abbrev pub late : Call → List Row
-late c = lateRows (c .sent .settings) (c .sent .frame) ++ countRows (c .sent .settings) (c .sent .frame) (c .areas .points) (c .areas .kept)
+late c = rowsFromSum (c .sent .settings) (c .sent .frame) (c .areas .points) (c .areas .kept)
 
 -- and all of a frame's refusals without a reply
 abbrev pub silent : Call → List Row

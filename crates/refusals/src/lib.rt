@@ -26,7 +26,7 @@ ghost use Rattle.frames.specs.Frame.{sumSaid};
 ghost use Rattle.kinds.specs.Kinds.{Sound};
 ghost use Rattle.table.specs.Table.{messageNumbered, messageOf};
 ghost use Rattle.messages.specs.Rows.{firstOf};
-ghost use Rattle.refusals.specs.Refusals.{pointsFit, variablesFit, journalFits, recordsFit, axesFit, releaseFits, countTrue, miscounted, areaRows, checkRows, lateRows, countRows, toldAfter, backRows};
+ghost use Rattle.refusals.specs.Refusals.{pointsFit, variablesFit, journalFits, recordsFit, axesFit, releaseFits, countTrue, miscounted, areaRows, checkRows, rowsFromSum, toldAfter, backRows};
 
 // What a frame's tests before its message say: the refusal without a reply, or 0, and what is told of the sum.
 pub struct Hearing {
@@ -140,7 +140,7 @@ fn fits_release(release: u8) -> bool
 }
 
 // The count that is kept is the slots' own: these are walked.
-fn is_true(points: &[u8], effective: usize) -> bool
+fn is_count_true(points: &[u8], effective: usize) -> bool
     requires { ⌜ pointsFit (length (now points)) ≡ true ⌝ }
     ensures { λ r. ⌜ r ≡ countTrue (now (points .entry)) effective ⌝ }
 {
@@ -153,7 +153,7 @@ fn fits_count(id: u64, points: &[u8], effective: usize) -> bool
     ensures { λ r. ⌜ r ≡ not (miscounted (messageNumbered id) (now (points .entry)) effective) ⌝ }
 {
     if id == 0x244 || id == 0x246 {
-        return is_true(points, effective);
+        return is_count_true(points, effective);
     }
     if id == 0x208 {
         return effective <= points.len() / Point::SLOT;
@@ -181,7 +181,7 @@ fn count_refusal(release: u8, frame: &[u8], points: &[u8], effective: usize) -> 
 // Tests 12, 7 and 8, by what the sum test said, and 11: the refusal, or 0.
 fn late_refusal(sum: Sum, settings: Settings, frame: &[u8], points: &[u8], kept: Kept) -> u16
     requires { ⌜ (10 ≤ length (now frame)) × (sum ≡ sumSaid (settings .release) (now frame)) × (pointsFit (length (now points)) ≡ true) ⌝ }
-    ensures { λ r. ⌜ r ≡ firstOf (lateRows settings (now (frame .entry)) ++ countRows settings (now (frame .entry)) (now (points .entry)) kept) ⌝ }
+    ensures { λ r. ⌜ r ≡ firstOf (rowsFromSum settings (now (frame .entry)) (now (points .entry)) kept) ⌝ }
 {
     match sum {
         Sum::True => {}
@@ -240,7 +240,7 @@ pub fn silent(
     requires { ⌜ lengths .points ≡ length (now points) ⌝ }
     ensures { λ r. ⌜ r .number
         ≡ firstOf (checkRows (now (frame .entry)) axes settings lengths (now (journal .entry)) kept
-        ++ (lateRows settings (now (frame .entry)) ++ countRows settings (now (frame .entry)) (now (points .entry)) kept)) ⌝ }
+        ++ rowsFromSum settings (now (frame .entry)) (now (points .entry)) kept) ⌝ }
     ensures { λ r. ⌜ r .sum
         ≡ toldAfter (firstOf (checkRows (now (frame .entry)) axes settings lengths (now (journal .entry)) kept)) (settings .release) (now (frame .entry)) ⌝ }
 {
@@ -267,7 +267,7 @@ pub fn back_refusal(lengths: Lengths, points: &[u8], journal: &[u8], kept: Kept)
     if number != 0 {
         return number;
     }
-    if !is_true(points, kept.effective) {
+    if !is_count_true(points, kept.effective) {
         return 11;
     }
     if kept.used == 0 {

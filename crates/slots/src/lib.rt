@@ -1,4 +1,4 @@
-// Points in their area, a slot of 40 bytes each (document 01, "The areas" and "Each message", 208H and 244H).
+// Points in their area, a slot of 40 bytes each (document 01, "The areas" and "Each message", 244H; document 02, b: the effective ones counted).
 use areas::bytes::four_at;
 use areas::bytes::put_four;
 use areas::bytes::put_two;

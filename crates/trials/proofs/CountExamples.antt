@@ -14,7 +14,7 @@ use Rattle.calls.specs.Calls.{Areas, Sent, Call, putIn}
 use Rattle.refusals.specs.Refusals.{refusalOf}
 use Rattle.demands.specs.History.{Conduct, ours, Event, frame, stepBack, CountTrue, EveryHistory}
 use Rattle.demands.specs.Survive.{Accepted}
-use Rattle.demands.proofs.Commands.{counting, writing, clearing, changing}
+use Rattle.demands.proofs.Commands.{counting, writing, clearing}
 use Rattle.trials.specs.Cases.{holding, bench}
 use Rattle.trials.specs.Broken.{smallest, small, lotCode, pointOne, clearOne, send}
 use Rattle.trials.specs.CountExamples as count
@@ -66,8 +66,6 @@ record Told : Type 0 where
   over-known : messageOf 1 (over .sent .frame) ≡ Known writing
   clear-refused : refusalOf clear ≡ 0
   clear-known : messageOf 1 (clear .sent .frame) ≡ Known clearing
-  code-refused : refusalOf code ≡ 0
-  code-known : messageOf 1 (code .sent .frame) ≡ Known changing
   poll-refused : refusalOf poll ≡ 0
   poll-known : messageOf 1 (poll .sent .frame) ≡ Known counting
 
@@ -79,8 +77,6 @@ told =
       over-known = refl;
       clear-refused = refl;
       clear-known = refl;
-      code-refused = refl;
-      code-known = refl;
       poll-refused = refl;
       poll-known = refl;
     }
@@ -90,9 +86,6 @@ is-over = record { message = writing; named = refl; known = told .over-known; nu
 
 is-clear : Accepted 0x246 clear
 is-clear = record { message = clearing; named = refl; known = told .clear-known; number = told .clear-refused; bytes = zero-bytes 580 }
-
-is-code : Accepted 0x24E code
-is-code = record { message = changing; named = refl; known = told .code-known; number = told .code-refused; bytes = zero-bytes 580 }
 
 is-poll : Accepted 0x208 poll
 is-poll = record { message = counting; named = refl; known = told .poll-known; number = told .poll-refused; bytes = zero-bytes 580 }
@@ -137,20 +130,28 @@ count-broken =
         λ e. let f : _≡_ {A = ℕ} 1 0 = e .stepped one one-bytes refl in omega (arith, f),
         miscounted backGiven (frame pointOne ∷ stepBack ∷ []) (λ f. let g : _≡_ {A = ℕ} 1 0 = f in omega (arith, g)),
       );
-      code-counts = λ e. let f : _≡_ {A = ℕ} 0 3 = e .other 0x24E code is-code (λ z. omega (arith, z)) (λ z. omega (arith, z)) in omega (arith, f);
-      refusal-forgets = λ e. let f : _≡_ {A = ℕ} 0 1 = e .refused (handed 1 "!99299@@\r\n") (λ z. omega (arith, z)) in omega (arith, f);
+      code-counts = λ e. let f : _≡_ {A = ℕ} 0 3 = e .other code (λ z. omega (arith, z)) (λ z. omega (arith, z)) in omega (arith, f);
+      unknown-forgets = λ e. let f : _≡_ {A = ℕ} 0 1 = e .other (handed 1 "!99299@@\r\n") (λ z. omega (arith, z)) (λ z. omega (arith, z)) in omega (arith, f);
+      refusal-forgets = λ e. let f : _≡_ {A = ℕ} 0 1 = e .refused (handed 1 "!99246001001@@\r\n") (λ z. omega (arith, z)) in omega (arith, f);
       back-forgets = λ e. let f : _≡_ {A = ℕ} 0 1 = e .refused-back (count.counting 1 smallest) (λ z. omega (arith, z)) in omega (arith, f);
       walks-slots = λ e. let f : _≡_ {A = ℕ} 0x30 0x31 = ap (λ (s : List ℕ). getD s 8 0) (e .trusts poll is-poll) in omega (arith, f);
-      eleven-first = λ e. let f : _≡_ {A = ℕ} 11 8 = e .eleven (handed 1 "!9A246001001@@\r\n") .not-before (λ z. omega (arith, z)) in omega (arith, f);
+      eleven-first = λ e. let f : _≡_ {A = ℕ} 11 8 = e .eleven (handed 1 "!9A246001001@@\r\n") .not-before (λ z. omega (arith, z)) .0 in omega (arith, f);
       eleven-at-code = λ e. absurd (true≢false (sym (e .eleven code .by-id refl .0 refl)));
       eleven-at-n = λ e. absurd (true≢false (sym (e .eleven (handed 2 "!99208@@\r\n") .by-id refl .0 refl)));
       clears-untested = λ e. let f : _≡_ {A = ℕ} 0 11 = e .eleven (handed 1 "!99246001001@@\r\n") .by-id refl .1 refl in omega (arith, f);
       content-first = λ e. let f : _≡_ {A = ℕ} 103 11 = e .eleven (handed 1 "!99244@@\r\n") .by-id refl .1 refl in omega (arith, f);
       replies-above = λ e. let f : _≡_ {A = ℕ} 0 11 = e .eleven (handed 3 "!99208@@\r\n") .by-id refl .1 refl in omega (arith, f);
+      replies-eleven = λ e. let f : _≡_ {A = ℕ} 0x26 0 = ap (λ (s : List ℕ). getD s 0 0) (e .eleven (handed 1 "!99246001001@@\r\n") .nothing-done refl .0) in omega (arith, f);
+      wipes-at-eleven = λ e.
+          let f : _≡_ {A = ℕ} 0 1 = ap (λ (a : Areas). getD (a .points) 0 0) (e .eleven (bench (count.counting 2 first) (text "!99246001001@@\r\n")) .nothing-done refl .1) in
+          omega (arith, f);
+      back-wipes = λ e.
+          let f : _≡_ {A = ℕ} 0 1 = ap (λ (a : Areas). getD (a .points) 0 0) (e .eleven-back (count.counting 2 first) .nothing-done refl .1) in omega (arith, f);
       nine-first = λ e.
           let f : _≡_ {A = ℕ} 9 11 = e .eleven-back (count.counting 1 smallest) .by-count refl .1 (λ z. let g : _≡_ {A = ℕ} 1 0 = z in omega (arith, g)) in
           omega (arith, f);
       points-alone = λ e.
           let f : _≡_ {A = ℕ} 0 11 = e .eleven-back (count.counting 2 (small ours (frame lotCode ∷ []) .areas)) .by-count refl .1 (λ z. let g : _≡_ {A = ℕ} 2 0 = z in omega (arith, g)) in
           omega (arith, f);
+      checks-no-count = λ e. let f : _≡_ {A = ℕ} 11 0 = e (handed 1 "!99246001001@@\r\n") .number in omega (arith, f);
     }

@@ -90,7 +90,7 @@ handingOn kept a = areasOf (a .points) (a .columns) (a .integers) (a .flags) (a 
 abbrev pub Meets : Board → Type 0
 Meets board = (c : Call) → Answers c (board c .answered) (board c .areas) (board c .reply)
 
--- its outcome: the number, the bytes that it replies, the areas with the used length that it hands on, what it tells of the sum
+-- its outcome: the number, the bytes that it replies, the areas with the used length and the count that it hands on, what it tells of the sum
 abbrev pub outcomeBy : Board → Call → Outcome
 outcomeBy board c =
     record {
@@ -141,12 +141,17 @@ storing a o =
     record {
       number = o .number;
       text = o .text;
-      areas = areasOf (a .points) (a .columns) (a .integers) (a .flags) (o .areas .journal) (o .areas .kept) (o .areas .firsts);
+      areas =
+          areasOf (a .points) (a .columns) (a .integers) (a .flags) (o .areas .journal)
+          (record { used = o .areas .kept .used; effective = a .kept .effective })
+          (o .areas .firsts);
       sum = o .sum;
     }
 
 abbrev pub handing : ℕ → Outcome → Outcome
-handing used o = record { number = o .number; text = o .text; areas = handingOn (record { used = used; effective = o .areas .kept .effective }) (o .areas); sum = o .sum }
+handing used o =
+    let kept : Kept = record { used = used; effective = o .areas .kept .effective } in
+    record { number = o .number; text = o .text; areas = handingOn kept (o .areas); sum = o .sum }
 
 -- in what is accepted alone, and in accepted writes alone
 abbrev pub whenAccepted : Call → (Outcome → Outcome) → Outcome → Outcome

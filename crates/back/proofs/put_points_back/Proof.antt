@@ -44,8 +44,19 @@ count-run-requires-2 c κs =
     (s .pre .0 .2)
     (same-puts (s .args .points .now) (g .restore .ensures) (g .before .kind2 .ensures ∙ kind-points (s .args .held)) refl)
 
-sub-result : tie.Need-sub-result
-sub-result c =
+returns : tie.Need-returns
+returns c =
+    let g = c .before .before .before .before in
+    let s = start g in
+    let p = same-puts (s .args .points .now) (g .restore .ensures) (g .before .kind2 .ensures ∙ kind-points (s .args .held)) refl in (
+      p,
+      ap₂ (λ (m n : ℕ). s .args .effective - m + n) (same-among (s .args .start) (length (s .args .old .now)) _ (g .before .before .before .count-run .ensures) (g .before .before .before .before .before .before .kind .ensures))
+          (same-among (s .args .start) (length (s .args .old .now)) _ (c .count-run2 .ensures) (g .before .before .before .before .before .before .kind .ensures))
+          ∙ entry-recounted (s .args .held) (s .args .tag) (s .args .start) (s .args .old .now) (s .pre .0 .0) (s .pre .0 .1) (s .args .points .now) (s .pre .0 .2) (s .pre .1) p .is,
+    )
+
+sub-others : tie.Need-sub-others
+sub-others c =
     let g = c .before .before .before .before in
     let s = start g in
     omega (
@@ -70,17 +81,6 @@ add-result c =
 same-length : tie.Need-same-length
 same-length c = search needs
 
-returns : tie.Need-returns
-returns c =
-    let g = c .before .before .before .before in
-    let s = start g in
-    let p = same-puts (s .args .points .now) (g .restore .ensures) (g .before .kind2 .ensures ∙ kind-points (s .args .held)) refl in (
-      p,
-      ap₂ (λ (m n : ℕ). s .args .effective - m + n) (same-among (s .args .start) (length (s .args .old .now)) _ (g .before .before .before .count-run .ensures) (g .before .before .before .before .before .before .kind .ensures))
-          (same-among (s .args .start) (length (s .args .old .now)) _ (c .count-run2 .ensures) (g .before .before .before .before .before .before .kind .ensures))
-          ∙ entry-recounted (s .args .held) (s .args .tag) (s .args .start) (s .args .old .now) (s .pre .0 .0) (s .pre .0 .1) (s .args .points .now) (s .pre .0 .2) (s .pre .1) p .is,
-    )
-
 pub put-points-back-spec : {M : Type 1} → statement M
 put-points-back-spec =
     tie.close
@@ -91,7 +91,7 @@ put-points-back-spec =
     kind-requires-2
     restore-requires
     count-run-requires-2
-    sub-result
+    sub-others
     add-result
     same-length
     returns)

@@ -13,8 +13,8 @@ returns c =
     let a = c .before .before .before .before .args in
     back-area (a .lengths) (a .journal .now) (a .kept) (a .points .now) (c .before .area-refusal .ensures) (c .if1 .taken)
 
-is-true-requires : tie.Need-is-true-requires
-is-true-requires c κs =
+is-count-true-requires : tie.Need-is-count-true-requires
+is-count-true-requires c κs =
     let s = c .before .before .before .before in
     back-points (s .args .lengths) (s .args .journal .now) (s .args .kept) (s .args .points .now) (sym (c .before .area-refusal .ensures) ∙ c .if1 .left) (s .pre)
 
@@ -23,14 +23,14 @@ returns-2 c =
     let a = c .before .before .before .before .before .before .args in
     back-11 (a .lengths) (a .journal .now) (a .kept) (a .points .now)
     (sym (c .before .before .before .area-refusal .ensures) ∙ c .before .before .if1 .left)
-    (was-false (c .before .is-true .ensures) (c .if2 .taken))
+    (was-false (c .before .is-count-true .ensures) (c .if2 .taken))
 
 returns-3 : tie.Need-returns-3
 returns-3 c =
     let a = c .before .before .before .before .before .before .before .before .args in
     back-9 (a .lengths) (a .journal .now) (a .kept) (a .points .now)
     (sym (c .before .before .before .before .before .area-refusal .ensures) ∙ c .before .before .before .before .if1 .left)
-    (was-true (c .before .before .before .is-true .ensures) (c .before .before .if2 .left))
+    (was-true (c .before .before .before .is-count-true .ensures) (c .before .before .if2 .left))
     (c .if3 .taken)
 
 returns-4 : tie.Need-returns-4
@@ -38,8 +38,8 @@ returns-4 c =
     let a = c .before .before .before .before .before .before .before .before .args in
     back-0 (a .lengths) (a .journal .now) (a .kept) (a .points .now)
     (sym (c .before .before .before .before .before .area-refusal .ensures) ∙ c .before .before .before .before .if1 .left)
-    (was-true (c .before .before .before .is-true .ensures) (c .before .before .if2 .left))
+    (was-true (c .before .before .before .is-count-true .ensures) (c .before .before .if2 .left))
     (c .if3 .left)
 
 pub back-refusal-spec : {M : Type 1} → statement M
-back-refusal-spec = tie.close (tie.spec area-refusal-requires returns is-true-requires returns-2 returns-3 returns-4)
+back-refusal-spec = tie.close (tie.spec area-refusal-requires returns is-count-true-requires returns-2 returns-3 returns-4)

@@ -7,13 +7,13 @@ use borrow.Author.Needs.{needs}
 use Rattle.refusals.proofs.fits_count.Statement.{statement}
 use Rattle.refusals.proofs.fits_count.Tie as tie
 
-is-true-requires : tie.Need-is-true-requires
-is-true-requires c κs = search needs
+is-count-true-requires : tie.Need-is-count-true-requires
+is-count-true-requires c κs = search needs
 
 returns : tie.Need-returns
 returns c =
     let a = c .before .before .before .args in
-    write-fits (a .id) (a .points .now) (a .effective) (⊎-elim (λ w. inl (w .taken)) (λ w. inr (eqb-true _ _ (w .1 .taken))) (c .before .if1 .came)) (c .is-true .ensures)
+    write-fits (a .id) (a .points .now) (a .effective) (⊎-elim (λ w. inl (w .taken)) (λ w. inr (eqb-true _ _ (w .1 .taken))) (c .before .if1 .came)) (c .is-count-true .ensures)
 
 returns-2 : tie.Need-returns-2
 returns-2 c = let a = c .before .before .before .before .args in poll-fits (a .id) (a .points .now) (a .effective) (c .if3 .taken)
@@ -24,4 +24,4 @@ returns-3 c =
     sym (ap not (other-fits (a .id) (a .points .now) (a .effective) (c .before .before .if1 .left) (eqb-false _ _ (c .before .if2 .left)) (c .if3 .left)))
 
 pub fits-count-spec : {M : Type 1} → statement M
-fits-count-spec = tie.close (tie.spec is-true-requires returns returns-2 returns-3)
+fits-count-spec = tie.close (tie.spec is-count-true-requires returns returns-2 returns-3)

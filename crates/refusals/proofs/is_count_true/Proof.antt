@@ -3,8 +3,8 @@ use Prim.Native.Nat.{ℕ}
 use lib.Dec.{eqb}
 use Rattle.refusals.proofs.Tested.{points-fit}
 use borrow.Author.Needs.{needs}
-use Rattle.refusals.proofs.is_true.Statement.{statement}
-use Rattle.refusals.proofs.is_true.Tie as tie
+use Rattle.refusals.proofs.is_count_true.Statement.{statement}
+use Rattle.refusals.proofs.is_count_true.Tie as tie
 
 count-effective-requires : tie.Need-count-effective-requires
 count-effective-requires c κs = let p = points-fit _ (c .before .pre) in (p .whole-slots, p .most)
@@ -12,5 +12,5 @@ count-effective-requires c κs = let p = points-fit _ (c .before .pre) in (p .wh
 returns : tie.Need-returns
 returns c = ap (λ (n : ℕ). eqb (c .before .before .args .effective) n) (c .count-effective .ensures)
 
-pub is-true-spec : {M : Type 1} → statement M
-is-true-spec = tie.close (tie.spec count-effective-requires returns)
+pub is-count-true-spec : {M : Type 1} → statement M
+is-count-true-spec = tie.close (tie.spec count-effective-requires returns)
