@@ -17,7 +17,7 @@ use Rattle.journal.specs.Laws.{Good}
 use Rattle.journal.proofs.Fitting.{Fit, fit, puts-own, puts-other}
 use Rattle.points.specs.Point.{effectiveIn}
 use Rattle.slots.specs.Counted.{effectiveAmong}
-use Rattle.slots.proofs.Counted.{Puts, Recounted, recounted}
+use Rattle.slots.proofs.Counted.{Recounted, recounted}
 
 module _ (h : Held) (tag start : ℕ) (old : List ℕ) (s : Sound h) (g : Good h (entryFor tag start old)) where
   fits : Fit (kindOf h tag) start (length old)

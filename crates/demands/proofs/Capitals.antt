@@ -28,7 +28,7 @@ use Rattle.points.specs.declared.units.Position.{Position}
 use Rattle.points.specs.declared.point.Point.{Point}
 use Rattle.points.specs.Units.{position}
 use Rattle.points.specs.Axes.{axesOf}
-use Rattle.points.specs.Point.{pointIn, positionDigits, pointDigits, effectiveIn}
+use Rattle.points.specs.Point.{pointIn, positionDigits, pointDigits}
 use Rattle.listing.specs.Listing.{listing, listed, joined}
 use Rattle.table.specs.declared.Action.{Action}
 use Rattle.table.specs.declared.Action.the-variants.{SayBack, CountPoints, ListPoints, ReadRun, AxisStatus, WritePoints, ClearRun, ChangeRun, ShowFlags, SetFlag}

@@ -1,7 +1,7 @@
 -- The count that is kept, of an order that was carried out.
 use Prim.Native.Nat.{ℕ, _+_, _-_, _*_, _/_, _≤_}
 use mathlib.Core.Path.{_≡_, refl, sym, ap, _∙_, subst}
-use mathlib.Core.Bool.{Bool, true, false, cond}
+use mathlib.Core.Bool.{Bool, true, false}
 use mathlib.Core.Logic.{_⊎_, inl, inr}
 use mathlib.Core.List.{List}
 use native.Mathlib.Omega.{arith}
@@ -14,7 +14,7 @@ use Rattle.kinds.specs.Kinds.{pointsTag, columnsTag, integersTag, pointsOf, kin
 use Rattle.kinds.proofs.Known.{kind-points, own-points, within, few, room}
 use Rattle.kinds.proofs.Promised.{run}
 use Rattle.points.specs.Point.{effectiveIn}
-use Rattle.slots.proofs.Counted.{Puts, Recounted, recounted}
+use Rattle.slots.proofs.Counted.{Recounted, recounted}
 use Rattle.table.specs.declared.Action.{Action}
 use Rattle.table.specs.declared.Action.the-variants.{SayBack, CountPoints, ListPoints, ReadRun, AxisStatus, WritePoints, ClearRun, ChangeRun, ShowFlags, SetFlag}
 use Rattle.table.specs.Table.{restIn}

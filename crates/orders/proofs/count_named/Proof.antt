@@ -1,5 +1,4 @@
-use Prim.Native.Nat.{ℕ}
-use mathlib.Core.Path.{sym, ap, _∙_}
+use mathlib.Core.Path.{ap, _∙_}
 use Rattle.digits.proofs.Bools.{was-false, was-true}
 use Rattle.kinds.specs.declared.Kind.{Kind}
 use Rattle.slots.specs.Counted.{effectiveAmong}

@@ -2,7 +2,6 @@ use mathlib.Core.Path.{ap}
 use Prim.Native.Nat.{ℕ}
 use lib.Dec.{eqb}
 use Rattle.refusals.proofs.Tested.{points-fit}
-use borrow.Author.Needs.{needs}
 use Rattle.refusals.proofs.is_count_true.Statement.{statement}
 use Rattle.refusals.proofs.is_count_true.Tie as tie
 
