@@ -77,6 +77,15 @@ def turned(root):
     return {old: new for old, new in to.items() if old != new}
 
 
+def imported(text, root):
+    """The names that a file takes from a library."""
+    own = os.listdir(os.path.join(root, "crates"))
+    for line in text.split("\n"):
+        use = re.match(r"\s*(?:pub )?(?:ghost )?use ([^{]*)\.\{(.*)\}", line)
+        if use and not any((use.group(1) + ".").startswith(f"Rattle.{crate}.") for crate in own):
+            yield from NAME.findall(use.group(2))
+
+
 def turn(text, to, comment):
     def one(m):
         word = m.group(0)
@@ -114,6 +123,8 @@ def main(argv):
         text = open(path, encoding="utf-8").read()
         # what is plain already in src/ is a name of Rust's
         here = {old: new for old, new in to.items() if not path.endswith(".rt") or re.search("[A-Z'-]", old)}
+        for name in imported(text, root):
+            here.pop(name, None)
         for name, where in FELL.items():
             if os.path.relpath(path, root) in where:
                 here[name] = name + "_lem"

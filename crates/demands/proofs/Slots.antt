@@ -10,7 +10,7 @@ use lib.Dec.{leb, eqb}
 use lib.IntN.{pos}
 use lib.ListN.{length, take, drop, get_or, replicate, length-append, length-drop, take-append-drop, get_or-append}
 use lib.Seq.{length-take-le, take-take, take_at, take-append-le, drop-append-le, drop_at, drop-drop}
-use borrow.Author.Tests.{leb-true, le-leb, not_true}
+use borrow.Author.Tests.{leb-true, le-leb, not-true}
 use Rattle.digits.specs.Digits.{capitals, digits_of, all_digits, number_of}
 use Rattle.digits.proofs.Inverse.{and_left, and_right}
 use Rattle.points.specs.Units.{position}
@@ -135,7 +135,7 @@ slot_pattern digits r = refl
 -- a pattern that passed is not 00
 pattern_some : (fitted pattern : ℕ) → pattern_fits fitted pattern ≡ true → eqb pattern 0 ≡ false
 unfolding pattern_fits
-pattern_some fitted pattern e = not_true _ (and_left (not (eqb pattern 0)) (eqb (bit_and pattern fitted) pattern) e)
+pattern_some fitted pattern e = not-true _ (and_left (not (eqb pattern 0)) (eqb (bit_and pattern fitted) pattern) e)
 
 -- a slot is forty bytes
 slot_behind : (digits r : List ℕ) → drop 40 (slot_of (point_of digits) ++ r) ≡ r

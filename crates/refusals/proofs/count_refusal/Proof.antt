@@ -3,7 +3,7 @@ use lib.ListN.{take, drop}
 use Rattle.digits.proofs.Fields.{is_number, not_digits_lem}
 use Rattle.table.specs.Table.{message_of}
 use Rattle.digits.proofs.Bools.{was_false, was_true, was_not}
-use borrow.Author.Tests.{not_true}
+use borrow.Author.Tests.{not-true}
 use Rattle.refusals.proofs.Tested.{by_id}
 use borrow.Author.Rules.{rules}
 use Rattle.refusals.proofs.count_refusal.Statement.{statement}
@@ -46,7 +46,7 @@ returns-3 : tie.Need-returns-3
 returns-3 c =
     let a = c.before.before.before.before.before.before.before.before.before.args in
     let e = is_number a.release (take 3 (drop 3 a.frame.now)) _ (sym c.before.before.before.id.given.1 ∙ c.before.before.before.before.before.read-field.ensures) in
-    by_id a.release a.frame.now a.points.now a.effective e (not_true _ (was_true c.before.Fits-count.ensures c.if1.false))
+    by_id a.release a.frame.now a.points.now a.effective e (not-true _ (was_true c.before.Fits-count.ensures c.if1.false))
 
 pub count-refusal-spec : {M : Type 1} → statement M
 count-refusal-spec =

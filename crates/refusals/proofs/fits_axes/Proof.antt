@@ -1,6 +1,6 @@
 use mathlib.Core.Path.{◌≡◌, refl, sym, ap, ◌∙◌}
 use Rattle.digits.proofs.Bools.{was_false, was_true}
-use borrow.Author.Tests.{not_true, not-false}
+use borrow.Author.Tests.{not-true, not-false}
 use Rattle.refusals.specs.Refusals.{axes_fit}
 use borrow.Author.Rules.{rules}
 use Rattle.refusals.proofs.fits_axes.Statement.{statement}
@@ -8,7 +8,7 @@ use Rattle.refusals.proofs.fits_axes.Tie as tie
 
 returns : tie.Need-returns
 unfolding axes_fit
-returns c = rw (not_true c.before.before.args.axes.eight c.if1.true)
+returns c = rw (not-true c.before.before.args.axes.eight c.if1.true)
 
 fits-records-requires : tie.Need-fits-records-requires
 fits-records-requires c κs = search rules
