@@ -1,4 +1,6 @@
 // Kinds of numbered things, as values (document 01, "The areas" and "Journal"; document 02, a).
+#![tactic(auto)]
+
 ghost use Rattle.std.specs.Prelude.{◌≡◌, ◌+◌, ◌*◌, ◌<◌, ◌≤◌, ◌^◌};
 ghost use Rattle.kinds.specs.Kinds.{points_of, columns_of, integers_of, flags_of, kind_of, held_in, holds, place_of};
 

@@ -1,0 +1,17 @@
+use native.Mathlib.Omega.{arith}
+use native.Mathlib.Numerals.{add-one, add-two, add-three}
+use lib.ListN.{length-set}
+use Rattle.digits.proofs.Laid.{stored}
+use Rattle.areas.proofs.bytes.put_four.Goals as goal
+
+pub bounds-area-at-2 : goal.bounds-area-at-2
+bounds-area-at-2 c = simp length-set (omega arith)
+
+pub bounds-area-at-3 : goal.bounds-area-at-3
+bounds-area-at-3 c = simp length-set (omega arith)
+
+pub bounds-area-at-4 : goal.bounds-area-at-4
+bounds-area-at-4 c = simp length-set (omega arith)
+
+pub returns : goal.returns
+returns c = rw (add-one, add-two, add-three) (stored c.args.area.now c.args.at _ (omega arith))
