@@ -1,9 +1,9 @@
 -- What the stores of a reply leave.
-use Rattle.std.proofs.Common.{◌≡◌, ℕ, ◌+◌, ◌-◌, ◌%◌, ◌<◌, ◌≤◌, List, [], ◌∷◌, ◌++◌, length, take, drop, sym, refl, ap, ◌∙◌, append_assoc, arith, length-append, length-drop, length-take-le}
+use Rattle.std.proofs.Common.{◌≡◌, ℕ, ◌+◌, ◌≤◌, List, [], ◌∷◌, ◌++◌, length, take, drop, refl, ap, ◌∙◌, append_assoc, arith, length-append, length-drop, length-take-le}
 use Rattle.digits.specs.Digits.{digits_of}
 use Rattle.digits.specs.Laid.{laid}
 use Rattle.digits.proofs.Laid.{laid_on, laid_kept, take_laid, part_laid, laid_over}
-use Rattle.frames.specs.Frame.{low_byte, sc_of, closed, reply_of, CR, LF}
+use Rattle.frames.specs.Frame.{low_byte, sc_of, reply_of, CR, LF}
 
 -- a reply is seven bytes longer than what follows its station
 pub length_reply : (h st : ℕ) (rest : List ℕ) → length (reply_of h st rest) ≡ length rest + 7

@@ -1,8 +1,8 @@
 -- The laws of specs/Laws.antt.
-use Rattle.std.proofs.Common.{◌≡◌, ℕ, ◌+◌, ◌-◌, ◌/◌, ◌%◌, ◌^◌, ◌<◌, ◌≤◌, Bool, true, false, cond, ◌&&◌, eqb, ltb, ◌↔◌, List, [], ◌∷◌, ◌++◌, length, get_or, take, drop, sym, refl, ap, ◌∙◌, append_assoc, arith, length-append, length-drop, length-take, length-take-le, take_at, drop_at, ltb-false, ltb-true, eq-eqb, ne_eqb, eqb-true}
+use Rattle.std.proofs.Common.{◌≡◌, ℕ, ◌+◌, ◌-◌, ◌/◌, ◌%◌, ◌<◌, ◌≤◌, Bool, true, false, cond, eqb, ltb, ◌↔◌, List, [], ◌∷◌, ◌++◌, length, take, drop, sym, refl, ap, ◌∙◌, append_assoc, arith, length-append, length-drop, length-take-le, take_at, drop_at, ltb-false, ltb-true, eq-eqb, ne_eqb, eqb-true}
 use Rattle.digits.specs.Digits.{byte_of, capitals, digits_of, admitted, number_of}
 use Rattle.digits.proofs.Inverse.{and_left, and_right, inverse, rules}
-use Rattle.frames.specs.Frame.{station_in, beforeSC, sc_in, sc_of, low_byte, says_number, sum_true, sum_off, closed, reply_of, CR, LF}
+use Rattle.frames.specs.Frame.{beforeSC, sc_in, sc_of, low_byte, says_number, sum_true, sum_off, closed, reply_of, CR, LF}
 use Rattle.frames.specs.Laws.{TrueSC, Reply}
 use Rattle.frames.proofs.Closing.{length_reply}
 
