@@ -435,8 +435,16 @@ module _ {held : Held} {size : ℕ} (b : Bounds held size) where
 
   pub every : (p : Past) → Inv p → (events : List Event) → Inv (past ours p events)
   every p v [] = v
-  every p v (frame s ∷ events) = every _ (step_frame p v s) events
-  every p v (step_back ∷ events) = every _ (step_back_lem p v) events
+  every p v (frame s ∷ events) =
+      every
+      (record { areas = after ours p.areas (frame s); standing_writes = standing ours p.areas p.standing_writes (frame s) })
+      (step_frame p v s)
+      events
+  every p v (step_back ∷ events) =
+      every
+      (record { areas = after ours p.areas step_back; standing_writes = standing ours p.areas p.standing_writes step_back })
+      (step_back_lem p v)
+      events
 
   removes_last : (p : Past) (v : Inv p) → entries (after ours p.areas step_back) ≡ others (entries p.areas)
   unfolding others
