@@ -8,7 +8,7 @@ use areas::bytes::{four_at, two_at};
 use points::units::Position;
 
 // What the motion board lends of one axis.
-#[derive(Drop)]
+#[derive(Clone, Copy)]
 pub struct AxisRecord {
     pub status: u8,
     pub sensor: u8,
@@ -18,7 +18,7 @@ pub struct AxisRecord {
 }
 
 // The axis records, and whether there were eight.
-#[derive(Drop)]
+#[derive(Clone, Copy)]
 pub struct Axes {
     pub eight: bool,
     pub records: [AxisRecord; 8],

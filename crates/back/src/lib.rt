@@ -14,7 +14,7 @@ use refusals::back_refusal;
 use slots::count_run;
 
 // The answer to a step back.
-#[derive(Drop)]
+#[derive(Clone, Copy)]
 pub struct Back {
     pub number: u16,
     pub kept: Kept,

@@ -7,7 +7,7 @@ use frames::checks::Sum;
 
 // A frame's settings, the cabinet release (document 02, l) and whether '@@' is allowed (f) among them; the first numbers of variables, which a step back
 // needs too, are kinds::Firsts.
-#[derive(Drop)]
+#[derive(Clone, Copy)]
 pub struct Settings {
     pub station: u8,
     pub release: u8,
@@ -16,14 +16,14 @@ pub struct Settings {
 }
 
 // What is handed on from call to call: the journal's used length, and the number of effective points (document 02, b).
-#[derive(Drop)]
+#[derive(Clone, Copy)]
 pub struct Kept {
     pub used: usize,
     pub effective: usize,
 }
 
 // That an earlier refusal left the frame untested, or what the sum test said.
-#[derive(Drop)]
+#[derive(Clone, Copy)]
 pub enum Told {
     Untested,
     Said(Sum),

@@ -38,7 +38,7 @@ fn count_of(field: &[u8]) -> usize
 }
 
 // Program number, start number and count of a content.
-#[derive(Drop)]
+#[derive(Clone, Copy)]
 pub struct Numbers {
     pub program: usize,
     pub start: usize,

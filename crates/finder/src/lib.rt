@@ -1,11 +1,13 @@
 // Finding a frame in the received bytes (document 01, "Finding a frame in the received bytes"; document 02, c).
+#![tactic(auto)]
+
 ghost use Rattle.std.specs.Prelude.{◌≡◌, ◌+◌, ◌-◌, ◌≤◌, ◌<◌, length, take, drop, ltb};
 ghost use Rattle.finder.specs.Find.{place_of, pair_first, pair_of, begins_test_call, skipped, skip_of, find_in, part_of};
 
 use frames::checks::has_test_id;
 
 // What the received bytes hold, and how many of them are used up or dropped.
-#[derive(Drop)]
+#[derive(Clone, Copy)]
 pub enum Found {
     Frame { start: usize, used: usize },
     Nothing { drop: usize },

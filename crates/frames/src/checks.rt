@@ -5,7 +5,7 @@ use crate::sums::sum;
 use digits::Field;
 
 // What the sum test says of a frame (document 02, f).
-#[derive(Drop)]
+#[derive(Clone, Copy)]
 pub enum Sum {
     True,
     SwitchedOff,

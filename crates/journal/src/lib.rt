@@ -1,4 +1,6 @@
 // The journal: entries in a lent area, adding one, stepping back (document 01, "Journal"; document 02, a).
+#![tactic(auto)]
+
 ghost use Rattle.std.specs.Prelude.{◌≡◌, true, ◌∷◌, ◌++◌, ◌+◌, ◌-◌, ◌≤◌, ◌<◌, length, take, drop, replicate};
 ghost use Rattle.areas.specs.Bytes.{two_of};
 ghost use Rattle.kinds.specs.Kinds.{Sound, size_of};
@@ -157,7 +159,7 @@ fn last_at(bytes: &[u8], held: Held) -> usize
 }
 
 // The last entry: its tag, its start number, and where it starts.
-#[derive(Drop)]
+#[derive(Clone, Copy)]
 pub struct Last {
     pub tag: u8,
     pub start: usize,

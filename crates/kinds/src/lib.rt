@@ -5,7 +5,7 @@ ghost use Rattle.std.specs.Prelude.{◌≡◌, ◌+◌, ◌*◌, ◌<◌, ◌≤
 ghost use Rattle.kinds.specs.Kinds.{points_of, columns_of, integers_of, flags_of, kind_of, held_in, holds, place_of};
 
 // A kind of numbered thing: its journal tag, first number, bytes for each, how many are held, how many an entry may name.
-#[derive(Drop)]
+#[derive(Clone, Copy)]
 pub struct Kind {
     pub tag: u8,
     pub first: usize,
@@ -15,21 +15,21 @@ pub struct Kind {
 }
 
 // The settings that number variables: that of the first integer, and that of the first flag.
-#[derive(Drop)]
+#[derive(Clone, Copy)]
 pub struct Firsts {
     pub integer: u16,
     pub flag: u16,
 }
 
 // What the board holds: how many points, and the first numbers of variables.
-#[derive(Drop)]
+#[derive(Clone, Copy)]
 pub struct Held {
     pub points: usize,
     pub firsts: Firsts,
 }
 
 // The lengths of the areas that things are held in, and the first numbers: all that the tests ask of them.
-#[derive(Drop)]
+#[derive(Clone, Copy)]
 pub struct Lengths {
     pub points: usize,
     pub columns: usize,

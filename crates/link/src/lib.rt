@@ -14,7 +14,7 @@ use orders::{Done, Order, carry_out};
 use refusals::silent;
 
 // The answer to a frame: its number, the reply's length, what is handed on, what is told of the sum.
-#[derive(Drop)]
+#[derive(Clone, Copy)]
 pub struct Answered {
     pub number: u16,
     pub length: usize,
@@ -23,7 +23,7 @@ pub struct Answered {
 }
 
 // What a check answers: the refusal, or what would be done; what is told of the sum.
-#[derive(Drop)]
+#[derive(Clone, Copy)]
 pub struct Checked {
     pub asked: Asked,
     pub sum: Told,

@@ -58,7 +58,7 @@ fn put_listing(reply: &mut [u8], at: usize, number: usize, p: Point)
 const ROOM: usize = 1011;
 
 // So many points listed, in so many digits.
-#[derive(Drop)]
+#[derive(Clone, Copy)]
 pub struct Listed {
     pub many: usize,
     pub digits: usize,

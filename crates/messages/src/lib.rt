@@ -13,7 +13,7 @@ use kinds::{Held, Kind};
 use table::{Follows, Message, Named, numbered};
 
 // What a frame asks: a refusal, 101 to 108 here, and without a reply too in what a check answers; or a message's order with its start number and count.
-#[derive(Drop)]
+#[derive(Clone, Copy)]
 pub enum Asked {
     Refused {
         number: u16,
@@ -26,7 +26,7 @@ pub enum Asked {
 }
 
 // What is shown of it: the refusal's number; or 0, the message's ID, and start and count where it names a run.
-#[derive(Drop)]
+#[derive(Clone, Copy)]
 pub struct Shown {
     pub number: u16,
     pub message: u16,

@@ -19,7 +19,7 @@ use table::{Action, Message};
 use writes::{change, clear, set_flag, write_points};
 
 // What a frame orders of a board that holds so much: a message, with its start number and count.
-#[derive(Drop)]
+#[derive(Clone, Copy)]
 pub struct Order {
     pub message: Message,
     pub start: usize,
@@ -28,7 +28,7 @@ pub struct Order {
 }
 
 // What an order that was carried out gives: the reply's length, and what is handed on.
-#[derive(Drop)]
+#[derive(Clone, Copy)]
 pub struct Done {
     pub length: usize,
     pub kept: Kept,

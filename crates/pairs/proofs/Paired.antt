@@ -1,14 +1,14 @@
 -- Laws of pairs of digits and their bytes.
-use Prim.Native.Nat.{ℕ, zero, suc, ◌+◌, ◌-◌, ◌*◌, ◌%◌, ◌≤◌, ◌<◌, ◌^◌}
+use Prim.Native.Nat.{ℕ, zero, suc, ◌+◌, ◌*◌, ◌<◌}
 use mathlib.Core.Path.{◌≡◌, refl, sym, ap, ap₂, ◌∙◌}
 use mathlib.Core.Bool.{true}
 use mathlib.Core.List.{List, [], ◌∷◌, ◌++◌, append_assoc}
 use native.Mathlib.Omega.{arith}
 use native.Mathlib.Nat.{not-suc-le-zero, le_of_suc-le-suc}
 use native.Mathlib.Numerals.{add-one}
-use lib.ListN.{length, take, drop, get_or, length-append}
+use lib.ListN.{length, take, get_or}
 use lib.Seq.{take-suc}
-use Rattle.digits.specs.Digits.{admits, worth_of, capitals, all_digits, number_of, digits_of}
+use Rattle.digits.specs.Digits.{admits, worth_of, capitals, all_digits, digits_of}
 use Rattle.digits.proofs.Inverse.{inverse, rules, and_left, and_right}
 use Rattle.pairs.specs.Pairs.{bytes_in, digits_in}
 

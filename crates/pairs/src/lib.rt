@@ -1,4 +1,6 @@
 // One byte for each pair of digits, and back (document 01, "Each message", 24EH and 210H; document 02, a).
+#![tactic(auto)]
+
 ghost use Rattle.std.specs.Prelude.{◌≡◌, true, ◌+◌, ◌*◌, ◌≤◌, length};
 ghost use Rattle.digits.specs.Digits.{all_digits};
 ghost use Rattle.digits.specs.Laid.{laid};

@@ -4,15 +4,15 @@ ghost use Rattle.std.proofs.Common.{to_z, of_z};
 ghost use Rattle.points.specs.Units.{position};
 
 // A position in 0.001 mm.
-#[derive(Drop)]
+#[derive(Clone, Copy)]
 pub struct Position(pub i32);
 
 // An acceleration or deceleration in 0.01 G.
-#[derive(Drop)]
+#[derive(Clone, Copy)]
 pub struct Acceleration(pub u16);
 
 // A speed in mm/sec.
-#[derive(Drop)]
+#[derive(Clone, Copy)]
 pub struct Speed(pub u16);
 
 impl Position {

@@ -17,7 +17,7 @@ use points::point::Point;
 use slots::count_effective;
 
 // What a frame's tests before its message say: the refusal without a reply, or 0, and what is told of the sum.
-#[derive(Drop)]
+#[derive(Clone, Copy)]
 pub struct Hearing {
     pub number: u16,
     pub sum: Told,

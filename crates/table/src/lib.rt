@@ -7,7 +7,7 @@ ghost use Rattle.table.specs.Table.{row, message_numbered};
 use kinds::Kind;
 
 // What follows the fields of a content.
-#[derive(Drop)]
+#[derive(Clone, Copy)]
 pub enum Follows {
     Nothing,
     TenBytes,
@@ -18,7 +18,7 @@ pub enum Follows {
 }
 
 // What a message has the board do.
-#[derive(Drop)]
+#[derive(Clone, Copy)]
 pub enum Action {
     SayBack,
     CountPoints,
@@ -34,7 +34,7 @@ pub enum Action {
 
 // A row: the ID, how many digits program, start and count have, the tag of the kind that it asks of, what follows these
 // fields, what it does, and whether the reply repeats them.
-#[derive(Drop)]
+#[derive(Clone, Copy)]
 pub struct Message {
     pub id: u16,
     pub program: usize,
@@ -47,7 +47,7 @@ pub struct Message {
 }
 
 // The message of an ID.
-#[derive(Drop)]
+#[derive(Clone, Copy)]
 pub enum Named {
     Known { message: Message },
     Unknown,
