@@ -7,7 +7,7 @@ use native.Mathlib.Nat.{le_of_suc-le-suc, not-suc-le-zero}
 use native.Mathlib.Omega.{arith}
 use lib.ListN.{length, take, drop, get_or, length-drop, drop_of_length-le}
 use lib.Dec.{leb, T}
-use lib.Seq.{drop-drop, take_all, length-take-le}
+use lib.Seq.{drop-drop, length-take-le}
 use borrow.Author.Tests.{ne_eqb, eq-eqb, le-leb, leb-true}
 use Rattle.digits.proofs.Laid.{part_rest}
 use Rattle.kinds.specs.declared.Held.{Held}

@@ -1,8 +1,8 @@
 -- Digits in capitals write the same points.
 use Prim.Native.Nat.{ℕ, zero, suc, ◌+◌, ◌*◌, ◌/◌, ◌%◌}
-use mathlib.Core.Path.{◌≡◌, refl, sym, ap, ap₂, ◌∙◌}
-use mathlib.Core.Bool.{Bool, true, false, cond, ◌&&◌}
-use mathlib.Core.List.{List, [], ◌∷◌, ◌++◌}
+use mathlib.Core.Path.{◌≡◌, refl, ap, ap₂, ◌∙◌}
+use mathlib.Core.Bool.{Bool, cond, ◌&&◌}
+use mathlib.Core.List.{List, ◌∷◌, ◌++◌}
 use lib.Dec.{eqb, leb}
 use lib.IntN.{pos}
 use lib.ListN.{length, take, drop}
@@ -13,7 +13,7 @@ use Rattle.digits.proofs.Capitals.{length_capitals, drop_capitals, number_front,
 use Rattle.points.specs.declared.units.Position.{Position}
 use Rattle.points.specs.Units.{position}
 use Rattle.points.specs.Axes.{axes_of}
-use Rattle.points.specs.Point.{position_of, positions_of, point_of, length_of, fills_of, slot_of, slots_of}
+use Rattle.points.specs.Point.{positions_of, point_of, length_of, fills_of, slot_of, slots_of}
 
 pub same_length : (digits : List ℕ) → length_of (capitals digits) ≡ length_of digits
 unfolding length_of

@@ -1,5 +1,5 @@
 -- The walk from axis to axis over the digits of positions.
-use Prim.Native.Nat.{ℕ, zero, suc, ◌+◌, ◌-◌, ◌*◌, ◌/◌, ◌%◌, ◌<◌, ◌≤◌}
+use Prim.Native.Nat.{ℕ, zero, suc, ◌+◌, ◌-◌, ◌/◌, ◌%◌}
 use mathlib.Core.Path.{◌≡◌, refl, sym, ap, ◌∙◌}
 use mathlib.Core.Bool.{Bool, true, false, cond}
 use mathlib.Core.List.{List, [], ◌∷◌, ◌++◌}
@@ -14,7 +14,7 @@ use Rattle.points.specs.declared.units.Position.{Position}
 use Rattle.points.specs.Units.{position}
 use Rattle.points.specs.Axes.{axes_from, axes_of}
 use Rattle.points.specs.Point.{position_of, positions_of}
-use Rattle.points.proofs.Ones.{Turn, turn_of, none}
+use Rattle.points.proofs.Ones.{Turn, none}
 
 -- positions with those of the listed axes taken from the next digits
 abbrev pub fill_axes : List ℕ → List ℕ → List Position → List Position

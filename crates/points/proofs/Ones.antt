@@ -1,9 +1,9 @@
 -- What one turn does, at each byte: computed at all 256.
 use mathlib.Core.Path.{◌≡◌, refl}
 use native.Mathlib.Omega.{arith}
-use mathlib.Core.Bool.{Bool, true, false, cond}
-use mathlib.Core.List.{List, [], ◌∷◌}
-use Prim.Native.Nat.{ℕ, zero, suc, ◌+◌, ◌-◌, ◌<◌, ◌≤◌}
+use mathlib.Core.Bool.{Bool}
+use mathlib.Core.List.{[], ◌∷◌}
+use Prim.Native.Nat.{ℕ, zero, suc, ◌-◌, ◌<◌, ◌≤◌}
 use lib.Dec.{T, ltb, ltb→lt, leb, leb→le, eqb, eqb→eq}
 use lib.Bits.{bit_and}
 use lib.Count.{count_trailing_zeros, ones}

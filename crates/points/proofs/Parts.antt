@@ -1,8 +1,8 @@
 -- Parts of digits are digits.
-use Prim.Native.Nat.{ℕ, ◌+◌, ◌-◌, ◌≤◌, ◌<◌}
-use mathlib.Core.Path.{◌≡◌, refl, sym, ap, ◌∙◌}
+use Prim.Native.Nat.{ℕ}
+use mathlib.Core.Path.{◌≡◌, ap, ◌∙◌}
 use mathlib.Core.Bool.{true}
-use mathlib.Core.List.{List, ◌++◌}
+use mathlib.Core.List.{List}
 use lib.ListN.{take, drop, take-append-drop}
 use Rattle.digits.specs.Digits.{all_digits}
 use Rattle.digits.proofs.Inverse.{all_left, all_right}

@@ -1,8 +1,8 @@
 -- The laws of specs/Laws.antt.
-use Prim.Native.Nat.{ℕ, zero, suc, ◌+◌, ◌-◌, ◌*◌, ◌/◌, ◌%◌, ◌<◌, ◌≤◌, ◌^◌}
+use Prim.Native.Nat.{ℕ, zero, suc, ◌+◌, ◌*◌, ◌/◌, ◌%◌, ◌<◌, ◌≤◌, ◌^◌}
 use mathlib.Core.Path.{◌≡◌, refl, sym, ap, ap₂, ◌∙◌}
 use mathlib.Core.Bool.{Bool, true, false, cond}
-use mathlib.Core.List.{List, [], ◌∷◌, ◌++◌, append_assoc}
+use mathlib.Core.List.{List, [], ◌∷◌, ◌++◌}
 use native.Mathlib.Omega.{arith}
 use native.Mathlib.Nat.{div-add-mod'}
 use lib.Dec.{eqb}
@@ -10,7 +10,7 @@ use lib.IntN.{pos}
 use lib.ListN.{length, take, drop, get_or, length-append, length-drop}
 use lib.Seq.{get_or_at, append_snoc, length-take-le, drop-drop}
 use mir.Syntax.{w32}
-use mir.Val.{SFits, Fits, to_z, of_z}
+use mir.Val.{Fits, to_z, of_z}
 use mir.Facts.{to_z-of_z, of_z-to_z, sfits_to_z, sfits_lit}
 use Rattle.digits.specs.Digits.{digits_of, capitals, all_digits, number_of}
 use Rattle.digits.proofs.Inverse.{inverse}
@@ -19,7 +19,7 @@ use Rattle.areas.specs.Bytes.{four_of, four_at}
 use Rattle.points.specs.declared.units.Position.{Position}
 use Rattle.points.specs.Units.{position, acceleration, speed}
 use Rattle.points.specs.Axes.{axes_from, axes_of}
-use Rattle.points.specs.Point.{zero_point, position_of, positions_of, point_of, length_of, position_bytes, slot_of, positions_in, point_in, position_digits, point_digits}
+use Rattle.points.specs.Point.{position_of, positions_of, point_of, length_of, position_bytes, slot_of, positions_in, point_in, position_digits, point_digits}
 use Rattle.points.specs.Laws.{AllFit, EverySlot, ZeroSlot, EveryDigit}
 use Rattle.points.proofs.Parts.{all_take, all_drop}
 use Rattle.points.proofs.Slotted.{length_slot, length_positions_of}

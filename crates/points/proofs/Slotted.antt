@@ -10,9 +10,8 @@ use lib.Dec.{eqb}
 use lib.IntN.{pos}
 use lib.Bits.{bit_and}
 use lib.Count.{count_trailing_zeros}
-use lib.ListN.{length, take, drop, get_or, set, length-append, length-drop, drop_of_length-le}
+use lib.ListN.{length, take, drop, get_or, set, drop_of_length-le}
 use lib.Seq.{drop-cons, drop-drop, take-suc-set, get_or-drop, take_all}
-use borrow.Author.Tests.{eq-eqb, ne_eqb}
 use mir.Syntax.{w32}
 use mir.Val.{to_z, of_z}
 use Rattle.digits.specs.Digits.{digits_of, number_of}
