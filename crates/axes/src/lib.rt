@@ -1,4 +1,6 @@
 // The axis records that the motion board lends: as one run of records, or read out of their bytes (document 01, "The areas").
+#![tactic(auto)]
+
 ghost use Rattle.std.specs.Prelude.{◌≡◌, ◌+◌, ◌≤◌, length, drop, replicate};
 ghost use Rattle.axes.specs.Records.{zero_record, eight_axes, no_axes};
 ghost use Rattle.axes.specs.Run.{lent_axes};

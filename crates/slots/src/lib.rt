@@ -1,4 +1,6 @@
 // Points in their area, a slot of 40 bytes each (document 01, "The areas" and "Each message", 244H; document 02, b: the effective ones counted).
+#![tactic(auto)]
+
 ghost use Rattle.std.specs.Prelude.{◌≡◌, true, [], ◌∷◌, ◌+◌, ◌*◌, ◌≤◌, length, drop};
 ghost use Rattle.digits.specs.Digits.{all_digits};
 ghost use Rattle.digits.specs.Laid.{laid};
