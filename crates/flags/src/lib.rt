@@ -1,4 +1,6 @@
 // Flags as a reply shows them, eight to a byte (document 02, request a; section 4-3-8 of source document 000).
+#![tactic(auto)]
+
 ghost use Rattle.std.specs.Prelude.{◌≡◌, ◌+◌, ◌*◌, ◌≤◌, length};
 ghost use Rattle.digits.specs.Laid.{laid};
 ghost use Rattle.pairs.specs.Pairs.{digits_in};

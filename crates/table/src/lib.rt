@@ -1,4 +1,6 @@
 // The messages that the board answers, a row each (document 01, "What the board answers" and "Each message"; document 02, a).
+#![tactic(auto)]
+
 ghost use Rattle.std.specs.Prelude.{◌≡◌, false};
 ghost use Rattle.kinds.specs.Kinds.{points_tag, flags_tag};
 ghost use Rattle.table.specs.declared.Named.TheVariants.{Known};
