@@ -1,4 +1,6 @@
 // A frame's content: its numbers, and the tests of what follows them, 103, 107 and 108 (document 01, "Each message" and "Refusal numbers"; document 02, a).
+#![tactic(auto)]
+
 ghost use Rattle.std.specs.Prelude.{◌≡◌, true, cond, not, ◌&&◌, ◌+◌, ◌*◌, ◌≤◌, ◌<◌, leb, eqb, length};
 ghost use Rattle.digits.specs.Digits.{all_digits, number_of};
 ghost use Rattle.frames.specs.Frame.{content_in};

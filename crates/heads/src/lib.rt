@@ -1,4 +1,6 @@
 // A reply's head, alone for a write, and before a run's digits (document 01, "Each message"; document 02, a).
+#![tactic(auto)]
+
 ghost use Rattle.std.specs.Prelude.{◌≡◌, ◌++◌, ◌+◌, ◌*◌, ◌≤◌, ◌<◌, length};
 ghost use Rattle.digits.specs.Digits.{digits_of};
 ghost use Rattle.digits.specs.Laid.{laid};

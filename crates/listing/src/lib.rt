@@ -1,4 +1,6 @@
 // Points as digits, and the effective ones listed (document 01, "Each message", 209H; source document 000, section 4-3-5).
+#![tactic(auto)]
+
 ghost use Rattle.std.specs.Prelude.{◌≡◌, ◌++◌, ◌+◌, ◌*◌, ◌≤◌, length};
 ghost use Rattle.digits.specs.Digits.{digits_of};
 ghost use Rattle.digits.specs.Laid.{laid};

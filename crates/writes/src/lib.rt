@@ -1,5 +1,7 @@
 // The writes: a run of one kind is put into its area, and what stood there goes into the journal (document 01, "Each message" and "Journal";
 // document 02, a).
+#![tactic(auto)]
+
 ghost use Rattle.std.specs.Prelude.{◌≡◌, true, [], ◌∷◌, ◌+◌, ◌*◌, ◌<◌, length, replicate};
 ghost use Rattle.digits.specs.Digits.{all_digits, number_of};
 ghost use Rattle.digits.specs.Laid.{laid};
