@@ -1,11 +1,11 @@
 -- A content in capitals is judged as it is in small letters.
 use Prim.Native.Nat.{ℕ, zero, suc, ◌+◌}
 use mathlib.Core.Path.{◌≡◌, refl, sym, ap, ap₂, ◌∙◌}
-use mathlib.Core.Bool.{Bool, true, false, cond, not, ◌&&◌}
+use mathlib.Core.Bool.{Bool, false, cond, not, ◌&&◌}
 use mathlib.Core.List.{List}
 use lib.Dec.{eqb, leb}
-use lib.ListN.{length, take, drop}
-use Rattle.digits.specs.Digits.{capitals, admitted, number_of}
+use lib.ListN.{drop}
+use Rattle.digits.specs.Digits.{capitals, number_of}
 use Rattle.digits.proofs.Inverse.{rules}
 use Rattle.digits.proofs.Capitals.{length_capitals, drop_capitals, number_front, number_part}
 use Rattle.frames.proofs.Bools.{and_false}
@@ -18,8 +18,7 @@ use Rattle.table.specs.declared.Follows.TheVariants.{Nothing, TenBytes, AxisPatt
 use Rattle.table.specs.declared.Message.{Message}
 use Rattle.table.specs.declared.Named.{Named}
 use Rattle.table.specs.declared.Named.TheVariants.{Known, Unknown}
-use Rattle.table.specs.Table.{fields_of, program_in, start_in, count_in, rest_in, follows_right, any_bytes, have_points, have_type, pattern_fits, patterns_fit}
-use Rattle.messages.specs.declared.Asked.{Asked}
+use Rattle.table.specs.Table.{fields_of, start_in, count_in, rest_in, follows_right, any_bytes, have_points, have_type, pattern_fits, patterns_fit}
 use Rattle.messages.specs.declared.Asked.TheVariants.{Refused, Order}
 use Rattle.messages.specs.Asked.{not_digits, wrong_length, wrong_program, count_zero, not_held, wrong_pattern, wrong_type, asked_rows, judged}
 use Rattle.messages.proofs.Judged.{pick, picked, judged_known, Right, written}

@@ -1,5 +1,7 @@
 // What a frame asks, 101 to 108 in the order tested: a read-only judgement, and what of it is shown (document 01, "Each message" and "Refusal numbers";
 // document 02, a, g and l).
+#![tactic(auto)]
+
 ghost use Rattle.std.specs.Prelude.{◌≡◌, not, ◌&&◌, ◌+◌, ◌≤◌, ◌<◌, leb, eqb, length};
 ghost use Rattle.kinds.specs.Kinds.{Sound, holds};
 ghost use Rattle.table.specs.declared.Named.TheVariants.{Known};

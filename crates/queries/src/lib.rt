@@ -1,4 +1,6 @@
 // The replies to 200H, 208H, 209H and 212H, laid into the lent reply area (document 01, "Each message"; document 02, b).
+#![tactic(auto)]
+
 ghost use Rattle.std.specs.Prelude.{◌≡◌, ◌+◌, ◌*◌, ◌≤◌, length};
 ghost use Rattle.digits.specs.Laid.{laid};
 ghost use Rattle.points.specs.Axes.{axes_of};
