@@ -1,4 +1,6 @@
 // The bench program (document 01): frames from standard input, replies to standard output.
+#![tactic(auto)]
+
 ghost use Rattle.std.specs.Prelude.{◌+◌, ◌≤◌, length};
 ghost use Rattle.bench.specs.Turns.{Less};
 
@@ -11,7 +13,7 @@ use libc::{STDIN_FILENO, STDOUT_FILENO};
 use link::answer;
 
 // What a turn leaves: so many bytes received and what is kept, or the end of the input.
-#[derive(Drop)]
+#[derive(Clone, Copy)]
 pub enum Turn {
     On { have: usize, kept: Kept },
     End,

@@ -1,4 +1,6 @@
 // The calls that the board's C host makes (include/cabinet.h).
+#![tactic(auto)]
+
 ghost use Rattle.std.specs.Prelude.{◌≡◌, []};
 ghost use Rattle.finder.specs.Find.{find_in};
 ghost use Rattle.axes.specs.Axes.{axes_in};

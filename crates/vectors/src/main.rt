@@ -1,4 +1,6 @@
 // Plays the second program's cases (second/README.md, "Vectors"), and writes a line for each call.
+#![tactic(auto)]
+
 ghost use Rattle.std.specs.Prelude.{◌+◌, ◌≤◌, ◌<◌, length};
 
 use axes::{AxisRecord, read_axes};
@@ -14,7 +16,7 @@ use link::{Answered, Checked, act, answer, check};
 use messages::show;
 
 // How much of each buffer is lent, the settings, and what is kept.
-#[derive(Drop)]
+#[derive(Clone, Copy)]
 pub struct Board {
     pub points: usize,
     pub columns: usize,
