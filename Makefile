@@ -17,42 +17,17 @@ AS_ARCHIVE := -Dplain_receive=cabinet_receive -Dplain_answer=cabinet_answer -Dpl
 AS_O3 := -Dplain_receive=plain_o3_receive -Dplain_answer=plain_o3_answer -Dplain_check=plain_o3_check -Dplain_act=plain_o3_act \
   -Dplain_step_back=plain_o3_step_back
 
-# rt says where its toolchain is. Asked only where it is needed: the other targets run without rt.
-MACHINE := $(shell uname -m)
-TOOLCHAIN = $(abspath $(dir $(shell rt doc))..)/on/$(MACHINE)/toolchain
-comma := ,
-
-# a command that the tests need, and the Debian package that has it
-TOOLS := gcc:gcc g++:g++ cargo:cargo rustc:rustc readelf:binutils
-
-# The product is x86-64 code. On another processor it's linked by a cross compiler, static since the emulator has no C library of that kind to load,
-# and run by the toolchain's emulator; valgrind doesn't run it there. Here it isn't static: valgrind finds fault with a static C library's own start.
-ifeq ($(MACHINE),x86_64)
-  X86CC := gcc
-  X86 :=
-  CHECKED := valgrind --quiet --error-exitcode=1
-  TOOLS += valgrind:valgrind
-else
-  X86CC := x86_64-linux-gnu-gcc -static
-  X86 = $(TOOLCHAIN)/bin/qemu-x86_64
-  CHECKED = $(X86)
-  TOOLS += x86_64-linux-gnu-gcc:gcc-x86-64-linux-gnu
-endif
+# a command that the tests need, and the Debian package that has it. Toolchain and product are for x86-64 Linux.
+TOOLS := gcc:gcc g++:g++ cargo:cargo rustc:rustc readelf:binutils valgrind:valgrind
 
 # the bench program: frames from standard input, replies to standard output
 run:
-	.ci/prove check bench
-	exec $(X86) $(TOOLCHAIN)/lib/ld-linux-x86-64.so.2 --library-path $(TOOLCHAIN)/lib target/bin/bench
+	.ci/prove run bench
+	exec crates/bench/out/bench
 
-# rt ci first, from nothing; then the tests outside it, which prove nothing again. rt ci's last line is printed last, and only where all passed.
+# the gate: rt ci first, then second, stored, header, host, sections and differential
 test: tools
-	log=$$(mktemp)
-	trap 'rm -f "$$log"' EXIT
-	rt ci | tee "$$log"
-	last=$$(tail -n 1 "$$log")
-	[[ $$last =~ ^[0-9]+\ passed,\ 0\ failed$$ ]] || { echo "rt ci did not end in 'N passed, 0 failed': $$last" >&2; exit 1; }
-	$(MAKE) --no-print-directory second stored header host sections differential
-	echo "$$last"
+	exec .ci/run
 
 # the independent second program's own tests
 second: tools
@@ -77,9 +52,11 @@ tools:
 	    bash -c "$$install" >&2
 	fi
 
+# the crate board_c, under the name that its C hosts know
 archive:
-	.ci/prove staticlib board
-	mkdir -p target/host
+	.ci/prove lib board_c
+	mkdir -p target/host $(dir $(ARCHIVE))
+	cp crates/board_c/out/libboard_c.a $(ARCHIVE)
 
 # the cases of crates/vectors and what the second program says of them, written anew
 vectors: tools
@@ -93,24 +70,24 @@ stored: tools
 
 # the archive: the bench listing in pieces of every length, the README's two programs, then every vector
 host: tools archive
-	$(X86CC) -std=c99 -O2 $(STRICT) host/bench_listing.c $(ARCHIVE) -o target/host/bench_listing
-	$(CHECKED) target/host/bench_listing
+	gcc -std=c99 -O2 $(STRICT) host/bench_listing.c $(ARCHIVE) -o target/host/bench_listing
+	valgrind --quiet --error-exitcode=1 target/host/bench_listing
 	cmp <(sed -n '/^    #include "cabinet.h"/,/^    }/s/^    //p' README.md) <(cat host/first_host.c host/panel.c)
-	$(X86CC) -std=c99 -O2 $(STRICT) host/first_host.c $(ARCHIVE) -o target/host/first_host
-	$(X86) target/host/first_host | cmp - <(printf '#9920000123456782B\r\n')
-	$(X86CC) -std=c99 -O2 $(STRICT) host/panel.c $(ARCHIVE) -o target/host/panel
-	echo y | $(X86) target/host/panel | cmp - <(printf '244H: 1 from 001, store? #9924400100151\r\n')
-	echo n | $(X86) target/host/panel | cmp - <(printf '244H: 1 from 001, store? ')
-	$(X86CC) -std=c99 -O2 $(STRICT) host/play_vectors.c $(ARCHIVE) -o target/host/play_vectors
-	$(X86) target/host/play_vectors < crates/vectors/stdin | cmp - crates/vectors/stdout
+	gcc -std=c99 -O2 $(STRICT) host/first_host.c $(ARCHIVE) -o target/host/first_host
+	target/host/first_host | cmp - <(printf '#9920000123456782B\r\n')
+	gcc -std=c99 -O2 $(STRICT) host/panel.c $(ARCHIVE) -o target/host/panel
+	echo y | target/host/panel | cmp - <(printf '244H: 1 from 001, store? #9924400100151\r\n')
+	echo n | target/host/panel | cmp - <(printf '244H: 1 from 001, store? ')
+	gcc -std=c99 -O2 $(STRICT) host/play_vectors.c $(ARCHIVE) -o target/host/play_vectors
+	target/host/play_vectors < crates/vectors/stdin | cmp - crates/vectors/stdout
 	echo "vectors: $$(wc -l < crates/vectors/stdout) calls as the second program says"
 
 # the archive's sections, in which no table of digits is (.ci/sections); host/plain.c has one as data, and the line below has one that code lays, and
 # each rule that they break must say so
 sections: tools archive
 	.ci/sections $(ARCHIVE) $(TABLES) $(READ_ONLY)
-	$(X86CC) -std=c99 -O2 $(STRICT) -c host/plain.c -o target/host/plain.o
-	echo 'int worth(int d) { volatile char of[8] = {1, 2, 3, 4, 5, 6, 7, 8}; return of[d & 7]; }' | $(X86CC) -O2 -x c -c - -o target/host/laid.o
+	gcc -std=c99 -O2 $(STRICT) -c host/plain.c -o target/host/plain.o
+	echo 'int worth(int d) { volatile char of[8] = {1, 2, 3, 4, 5, 6, 7, 8}; return of[d & 7]; }' | gcc -O2 -x c -c - -o target/host/laid.o
 	said=$$(.ci/sections target/host/plain.o 0 0 2>&1) && { echo "the table of host/plain.c was not refused" >&2; exit 1; }
 	for why in 'read-only data of [0-9]* bytes: [.]rodata' 'jump tables and data of' 'read-only data of [0-9]* bytes, and' 'four rising bytes in a row'; do
 	    grep -q "^$$why" <<< "$$said" || { echo "not said of host/plain.c: $$why" >&2; exit 1; }
@@ -120,17 +97,16 @@ sections: tools archive
 
 # drawn calls compared with the second program, every byte of every area after each; DIFFERENTIAL_CALLS=N and DIFFERENTIAL_SEED=N for others
 differential: tools archive
-	$(X86CC) -std=c99 -O2 $(STRICT) host/play_calls.c $(ARCHIVE) -o target/host/play_calls
-	PLAYER="$(X86) target/host/play_calls" cargo run --quiet --offline --release --manifest-path second/Cargo.toml --target-dir target/second --bin differential
+	gcc -std=c99 -O2 $(STRICT) host/play_calls.c $(ARCHIVE) -o target/host/play_calls
+	PLAYER="target/host/play_calls" cargo run --quiet --offline --release --manifest-path second/Cargo.toml --target-dir target/second --bin differential
 
-# the archive's time beside host/plain.c's, compiled at -O2 and at -O3, each compared first as the archive is. The emulator runs `rep stosb`, the C
-# library's way to fill long areas, byte by byte; without ERMS the library takes another.
+# the archive's time beside host/plain.c's, compiled at -O2 and at -O3, each compared first as the archive is
 benchmark: tools archive
 	for level in 2 3; do
 	    gcc -std=c99 -O$$level $(STRICT) $(AS_ARCHIVE) host/play_calls.c host/plain.c -o target/host/play_plain
 	    PLAYER="target/host/play_plain" cargo run --quiet --offline --release --manifest-path second/Cargo.toml --target-dir target/second --bin differential | tail -n 1
 	done
-	$(X86CC) -std=c99 -O3 $(STRICT) $(AS_O3) -c host/plain.c -o target/host/plain_o3.o
-	$(X86CC) -std=c99 -O2 $(STRICT) host/benchmark.c host/plain.c target/host/plain_o3.o $(ARCHIVE) -o target/host/benchmark
-	echo "$$(lscpu | sed -n 's/^Model name: *//p')$(if $(X86),$(comma) x86-64 code under the emulator)"
-	QEMU_CPU=max,-erms $(X86) target/host/benchmark
+	gcc -std=c99 -O3 $(STRICT) $(AS_O3) -c host/plain.c -o target/host/plain_o3.o
+	gcc -std=c99 -O2 $(STRICT) host/benchmark.c host/plain.c target/host/plain_o3.o $(ARCHIVE) -o target/host/benchmark
+	lscpu | sed -n 's/^Model name: *//p'
+	target/host/benchmark

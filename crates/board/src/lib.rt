@@ -1,4 +1,6 @@
-// The calls that the board's C host makes (include/cabinet.h).
+// The calls that the board's C host makes (include/cabinet.h); the crate board_c exports them.
+#![tactic(auto)]
+
 ghost use Rattle.std.specs.Prelude.{◌≡◌, []};
 ghost use Rattle.finder.specs.Find.{find_in};
 ghost use Rattle.axes.specs.Axes.{axes_in};
@@ -15,8 +17,7 @@ use link::{act, check};
 use messages::show;
 
 // 0 a frame, 1 nothing, 2 wait, 3 too long.
-#[unsafe(no_mangle)]
-pub extern "C" fn cabinet_receive(
+pub fn cabinet_receive(
     received: &[u8],
     start: &mut usize,
     length: &mut usize,
@@ -62,8 +63,7 @@ fn settings_by(fitted: u8, station: u8, release: u8, unchecked: u8) -> Settings
 }
 
 // The refusal number, never 1, 0 where the frame would be done; everything is only read.
-#[unsafe(no_mangle)]
-pub extern "C" fn cabinet_check(
+pub fn cabinet_check(
     frame: &[u8],
     points: &[u8],
     columns: &[u8],
@@ -117,8 +117,7 @@ pub extern "C" fn cabinet_check(
 }
 
 // The refusal number, 0 where accepted: the check again, and what it answers done.
-#[unsafe(no_mangle)]
-pub extern "C" fn cabinet_act(
+pub fn cabinet_act(
     frame: &[u8],
     points: &mut [u8],
     columns: &mut [u8],
@@ -178,8 +177,7 @@ pub extern "C" fn cabinet_act(
 }
 
 // The refusal number, 0 where accepted: check and act in one.
-#[unsafe(no_mangle)]
-pub extern "C" fn cabinet_answer(
+pub fn cabinet_answer(
     frame: &[u8],
     points: &mut [u8],
     columns: &mut [u8],
@@ -230,8 +228,7 @@ pub extern "C" fn cabinet_answer(
 }
 
 // The refusal number, 0 where a write was taken back.
-#[unsafe(no_mangle)]
-pub extern "C" fn cabinet_step_back(
+pub fn cabinet_step_back(
     points: &mut [u8],
     columns: &mut [u8],
     integers: &mut [u8],

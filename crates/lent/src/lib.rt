@@ -1,4 +1,6 @@
 // The link with the axis records as the motion board lends them, one run of records (document 01, "The areas").
+#![tactic(auto)]
+
 ghost use Rattle.axes.specs.Run.{lent_axes};
 ghost use Rattle.calls.specs.Calls.{areas_of, call_of};
 ghost use Rattle.link.specs.Contract.{Answers};

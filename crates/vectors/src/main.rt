@@ -1,20 +1,22 @@
 // Plays the second program's cases (second/README.md, "Vectors"), and writes a line for each call.
-ghost use Rattle.std.specs.Prelude.{◌+◌, ◌≤◌, ◌<◌, length};
+#![tactic(auto)]
+
+ghost use Rattle.std.specs.Prelude.{◌+◌, ◌≤◌, ◌<◌, length, IfOk};
 
 use axes::{AxisRecord, read_axes};
 use back::{Back, step_back};
 use calls::{Kept, Settings, sum_code};
 use digits::wide;
 use finder::{Found, find};
-use io::print_decimal;
 use kinds::Firsts;
 use lent::answer_lent;
-use libc::{STDIN_FILENO, STDOUT_FILENO};
 use link::{Answered, Checked, act, answer, check};
 use messages::show;
+use std::io;
+use std::io::Read;
 
 // How much of each buffer is lent, the settings, and what is kept.
-#[derive(Drop)]
+#[derive(Clone, Copy)]
 pub struct Board {
     pub points: usize,
     pub columns: usize,
@@ -104,13 +106,12 @@ fn set(area: &mut [u8], at: usize, b: u8) {
     }
 }
 
-fn say(text: &[u8]) {
-    io::write_all(STDOUT_FILENO, text);
+fn say(rt: &impl Print, text: &[u8]) -> io::Result<()> {
+    rt.write_all(text)
 }
 
-fn say_number(n: usize) {
-    say(b" ");
-    print_decimal(STDOUT_FILENO, n as u64);
+fn say_number(rt: &impl Print, n: usize) -> io::Result<()> {
+    print!(rt; " {n}")
 }
 
 // (31·h + byte + 1) mod 4,294,967,291, from 0 on, over an area's bytes.
@@ -124,19 +125,26 @@ fn digest(area: &[u8]) -> u64 {
     h
 }
 
-fn say_digest(area: &[u8]) {
+fn say_digest(rt: &impl Print, area: &[u8]) -> io::Result<()> {
     let mut text = [0u8; 8];
     digits::put_number(&mut text, 0, 8, digest(area));
-    say(b" ");
-    say(&text);
+    say(rt, b" ")?;
+    say(rt, &text)
 }
 
-fn say_areas(points: &[u8], columns: &[u8], integers: &[u8], flags: &[u8], journal: &[u8]) {
-    say_digest(points);
-    say_digest(columns);
-    say_digest(integers);
-    say_digest(flags);
-    say_digest(journal);
+fn say_areas(
+    rt: &impl Print,
+    points: &[u8],
+    columns: &[u8],
+    integers: &[u8],
+    flags: &[u8],
+    journal: &[u8],
+) -> io::Result<()> {
+    say_digest(rt, points)?;
+    say_digest(rt, columns)?;
+    say_digest(rt, integers)?;
+    say_digest(rt, flags)?;
+    say_digest(rt, journal)
 }
 
 // The records lent as one run, as the motion board lends them.
@@ -220,51 +228,52 @@ fn answer_frame(
 }
 
 // The used length, and the count of effective points.
-fn say_kept(kept: Kept) {
-    say_number(kept.used);
-    say_number(kept.effective);
+fn say_kept(rt: &impl Print, kept: Kept) -> io::Result<()> {
+    say_number(rt, kept.used)?;
+    say_number(rt, kept.effective)
 }
 
 // The numbers of an answer or an act; what is kept.
-fn say_answered(answered: Answered, acts: bool) -> Kept {
+fn say_answered(rt: &impl Print, answered: Answered, acts: bool) -> io::Result<Kept> {
     let after = answered.kept;
     let told = answered.sum;
     if acts {
-        say(b"A");
+        say(rt, b"A")?;
     } else {
-        say(b"F");
+        say(rt, b"F")?;
     }
-    say_number(answered.number as usize);
-    say_number(answered.length);
-    say_kept(after);
-    say_number(sum_code(told) as usize);
-    after
+    say_number(rt, answered.number as usize)?;
+    say_number(rt, answered.length)?;
+    say_kept(rt, after)?;
+    say_number(rt, sum_code(told) as usize)?;
+    Ok(after)
 }
 
 // The numbers of a step back; what is kept.
-fn say_back(back: Back) -> Kept {
+fn say_back(rt: &impl Print, back: Back) -> io::Result<Kept> {
     let after = back.kept;
-    say(b"S");
-    say_number(back.number as usize);
-    say_kept(after);
-    after
+    say(rt, b"S")?;
+    say_number(rt, back.number as usize)?;
+    say_kept(rt, after)?;
+    Ok(after)
 }
 
 // What is shown of a check.
-fn say_checked(checked: Checked) {
+fn say_checked(rt: &impl Print, checked: Checked) -> io::Result<()> {
     let asked = checked.asked;
     let told = checked.sum;
     let shown = show(asked);
-    say(b"C");
-    say_number(shown.number as usize);
-    say_number(shown.message as usize);
-    say_number(shown.start);
-    say_number(shown.count);
-    say_number(sum_code(told) as usize);
+    say(rt, b"C")?;
+    say_number(rt, shown.number as usize)?;
+    say_number(rt, shown.message as usize)?;
+    say_number(rt, shown.start)?;
+    say_number(rt, shown.count)?;
+    say_number(rt, sum_code(told) as usize)
 }
 
 // One frame checked.
 fn play_check(
+    rt: &impl Print,
     frame: &[u8],
     points: &[u8],
     columns: &[u8],
@@ -273,7 +282,7 @@ fn play_check(
     journal: &[u8],
     axes: &[u8],
     board: Board,
-) {
+) -> io::Result<()> {
     let kept = board.kept;
     let checked = check(
         frame,
@@ -287,13 +296,14 @@ fn play_check(
         read_axes(axes),
         board.settings,
     );
-    say_checked(checked);
-    say_areas(points, columns, integers, flags, journal);
-    say(b"\n");
+    say_checked(rt, checked)?;
+    say_areas(rt, points, columns, integers, flags, journal)?;
+    say(rt, b"\n")
 }
 
 // One frame answered, or acted on; what is kept.
 fn play_frame(
+    rt: &impl Print,
     frame: &[u8],
     points: &mut [u8],
     columns: &mut [u8],
@@ -304,7 +314,7 @@ fn play_frame(
     axes: &[u8],
     board: Board,
     acts: bool,
-) -> Kept {
+) -> io::Result<Kept> {
     let answered = answer_frame(
         frame,
         &mut *points,
@@ -317,22 +327,23 @@ fn play_frame(
         acts,
         &mut *reply,
     );
-    let left = say_answered(answered, acts);
-    say_areas(&*points, &*columns, &*integers, &*flags, &*journal);
-    say_digest(&*reply);
-    say(b"\n");
-    left
+    let left = say_answered(rt, answered, acts)?;
+    say_areas(rt, &*points, &*columns, &*integers, &*flags, &*journal)?;
+    say_digest(rt, &*reply)?;
+    say(rt, b"\n")?;
+    Ok(left)
 }
 
 // One step back; what is kept.
 fn play_back(
+    rt: &impl Print,
     points: &mut [u8],
     columns: &mut [u8],
     integers: &mut [u8],
     flags: &mut [u8],
     journal: &mut [u8],
     board: Board,
-) -> Kept {
+) -> io::Result<Kept> {
     let kept = board.kept;
     let back = step_back(
         &mut *points,
@@ -343,28 +354,34 @@ fn play_back(
         kept,
         board.firsts,
     );
-    let left = say_back(back);
-    say_areas(&*points, &*columns, &*integers, &*flags, &*journal);
-    say(b"\n");
-    left
+    let left = say_back(rt, back)?;
+    say_areas(rt, &*points, &*columns, &*integers, &*flags, &*journal)?;
+    say(rt, b"\n")?;
+    Ok(left)
 }
 
-fn say_found(code: usize, start: usize, length: usize, drop: usize) {
-    say(b"R");
-    say_number(code);
-    say_number(start);
-    say_number(length);
-    say_number(drop);
-    say(b"\n");
+fn say_found(
+    rt: &impl Print,
+    code: usize,
+    start: usize,
+    length: usize,
+    drop: usize,
+) -> io::Result<()> {
+    say(rt, b"R")?;
+    say_number(rt, code)?;
+    say_number(rt, start)?;
+    say_number(rt, length)?;
+    say_number(rt, drop)?;
+    say(rt, b"\n")
 }
 
-fn play_find(received: &[u8]) {
+fn play_find(rt: &impl Print, received: &[u8]) -> io::Result<()> {
     let found = find(received);
     match found {
-        Found::Frame { start, used } => say_found(0, start, used - start, used),
-        Found::Nothing { drop } => say_found(1, 0, 0, drop),
-        Found::Wait { drop } => say_found(2, 0, 0, drop),
-        Found::TooLong { drop } => say_found(3, 0, 0, drop),
+        Found::Frame { start, used } => say_found(rt, 0, start, used - start, used),
+        Found::Nothing { drop } => say_found(rt, 1, 0, 0, drop),
+        Found::Wait { drop } => say_found(rt, 2, 0, 0, drop),
+        Found::TooLong { drop } => say_found(rt, 3, 0, 0, drop),
     }
 }
 
@@ -456,13 +473,13 @@ fn kept_by(rest: &[u8], kept: Kept) -> Kept {
 }
 
 // What touches no area: the board after 'B', 'L', 'U', 'N' or 'P', and 'R', which looks for a frame.
-fn settle(rest: &[u8], board: Board) -> Board {
+fn settle(rt: &impl Print, rest: &[u8], board: Board) -> io::Result<Board> {
     let op = byte_at(rest, 0);
     if op == 0x42 {
-        return board_of(rest);
+        return Ok(board_of(rest));
     }
     if op == 0x4C {
-        return lend(rest, board);
+        return Ok(lend(rest, board));
     }
     let mut b = board;
     if op == 0x55 || op == 0x4E {
@@ -472,13 +489,14 @@ fn settle(rest: &[u8], board: Board) -> Board {
         b.firsts = firsts_at(rest, 5);
     } else if op == 0x52 {
         let from = within(3, rest);
-        play_find(&rest[from..]);
+        play_find(rt, &rest[from..])?;
     }
-    b
+    Ok(b)
 }
 
 // 'C': a check, on what is lent.
 fn check_on(
+    rt: &impl Print,
     rest: &[u8],
     points: &[u8],
     columns: &[u8],
@@ -487,7 +505,7 @@ fn check_on(
     journal: &[u8],
     axes: &[u8],
     board: Board,
-) {
+) -> io::Result<()> {
     let from = within(3, rest);
     let p = within(board.points, points);
     let c = within(board.columns, columns);
@@ -496,6 +514,7 @@ fn check_on(
     let j = within(board.journal, journal);
     let a = within(board.axes, axes);
     play_check(
+        rt,
         &rest[from..],
         &points[..p],
         &columns[..c],
@@ -504,11 +523,12 @@ fn check_on(
         &journal[..j],
         &axes[..a],
         board,
-    );
+    )
 }
 
 // 'F' and 'A': a frame, on what is lent; what is kept.
 fn frame_on(
+    rt: &impl Print,
     rest: &[u8],
     points: &mut [u8],
     columns: &mut [u8],
@@ -519,7 +539,7 @@ fn frame_on(
     axes: &[u8],
     board: Board,
     acts: bool,
-) -> Kept {
+) -> io::Result<Kept> {
     let from = within(3, rest);
     let p = within(board.points, points);
     let c = within(board.columns, columns);
@@ -529,6 +549,7 @@ fn frame_on(
     let r = within(board.reply, reply);
     let a = within(board.axes, axes);
     play_frame(
+        rt,
         &rest[from..],
         &mut points[..p],
         &mut columns[..c],
@@ -544,19 +565,21 @@ fn frame_on(
 
 // 'S': a step back, on what is lent; what is kept.
 fn back_on(
+    rt: &impl Print,
     points: &mut [u8],
     columns: &mut [u8],
     integers: &mut [u8],
     flags: &mut [u8],
     journal: &mut [u8],
     board: Board,
-) -> Kept {
+) -> io::Result<Kept> {
     let p = within(board.points, points);
     let c = within(board.columns, columns);
     let i = within(board.integers, integers);
     let g = within(board.flags, flags);
     let j = within(board.journal, journal);
     play_back(
+        rt,
         &mut points[..p],
         &mut columns[..c],
         &mut integers[..i],
@@ -568,6 +591,7 @@ fn back_on(
 
 // What an operation does but for 'B' and 'X' of the areas.
 fn play(
+    rt: &impl Print,
     rest: &[u8],
     points: &mut [u8],
     columns: &mut [u8],
@@ -577,15 +601,18 @@ fn play(
     reply: &mut [u8],
     axes: &mut [u8],
     board: Board,
-) -> Board {
+) -> io::Result<Board> {
     let op = byte_at(rest, 0);
     let mut b = board;
     if op == 0x43 {
-        check_on(rest, points, columns, integers, flags, journal, axes, board);
-        return b;
+        check_on(
+            rt, rest, points, columns, integers, flags, journal, axes, board,
+        )?;
+        return Ok(b);
     }
     if op == 0x46 || op == 0x41 {
         b.kept = frame_on(
+            rt,
             rest,
             points,
             columns,
@@ -596,14 +623,14 @@ fn play(
             &*axes,
             board,
             op == 0x41,
-        );
-        return b;
+        )?;
+        return Ok(b);
     }
     if op == 0x53 {
-        b.kept = back_on(points, columns, integers, flags, journal, board);
-        return b;
+        b.kept = back_on(rt, points, columns, integers, flags, journal, board)?;
+        return Ok(b);
     }
-    settle(rest, board)
+    settle(rt, rest, board)
 }
 
 // How many bytes an operation has; 0 at the end.
@@ -646,6 +673,7 @@ fn next(rest: &[u8]) -> usize
 
 // The first operation is a 'B', so the first board is that one.
 fn play_all(
+    rt: &impl Print,
     operations: &[u8],
     points: &mut [u8],
     columns: &mut [u8],
@@ -654,7 +682,7 @@ fn play_all(
     journal: &mut [u8],
     reply: &mut [u8],
     axes: &mut [u8],
-) {
+) -> io::Result<()> {
     let mut board = board_of(operations);
     let mut at: usize = 0;
     let mut n = next(operations);
@@ -665,12 +693,29 @@ fn play_all(
         n = next(&operations[end..]);
         prepare_all(rest, points, columns, integers, flags, journal, reply, axes);
         board = play(
-            rest, points, columns, integers, flags, journal, reply, axes, board,
-        );
+            rt, rest, points, columns, integers, flags, journal, reply, axes, board,
+        )?;
     }
+    Ok(())
 }
 
-fn main() {
+// What comes, until the area is full or the input ends, and how many bytes it was.
+fn read_full(input: &mut impl Read, area: &mut [u8]) -> io::Result<usize>
+    ensures { IfOk result (λ n. n ≤ length area.new) }
+{
+    let mut have: usize = 0;
+    while have < area.len() {
+        let n = input.read(&mut area[have..])?;
+        if n == 0 {
+            return Ok(have);
+        }
+        have += n;
+    }
+    Ok(have)
+}
+
+fn main(rt: HostRuntime) -> io::Result<()> {
+    let mut input = rt.stdin();
     let mut operations = [0u8; 163840];
     let mut points = [0u8; 60000];
     let mut columns = [0u8; 720];
@@ -679,8 +724,9 @@ fn main() {
     let mut journal = [0u8; 65600];
     let mut reply = [0u8; 1100];
     let mut axes = [0u8; 80];
-    let n = io::read_full(STDIN_FILENO, &mut operations);
+    let n = read_full(&mut input, &mut operations)?;
     play_all(
+        &rt,
         &operations[..n],
         &mut points,
         &mut columns,
@@ -689,5 +735,5 @@ fn main() {
         &mut journal,
         &mut reply,
         &mut axes,
-    );
+    )
 }
