@@ -1,5 +1,7 @@
 // The tests behind the refusals without a reply but 1, and the step back's (document 01, "Refusal numbers, in the order tested"; document 02, a: 10;
 // b: 11; f: 12; l: 13; g: a check tests them too).
+#![tactic(auto)]
+
 ghost use Rattle.std.specs.Prelude.{◌≡◌, true, cond, not, ◌++◌, ◌≤◌, length};
 ghost use Rattle.frames.specs.Frame.{sum_said};
 ghost use Rattle.kinds.specs.Kinds.{Sound};

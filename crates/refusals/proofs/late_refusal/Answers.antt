@@ -1,0 +1,35 @@
+use mathlib.Core.Path.{sym, ◌∙◌}
+use Rattle.refusals.proofs.Rows.{late_by_lem}
+use Rattle.refusals.proofs.late_refusal.Goals as goal
+use Rattle.refusals.proofs.late_refusal.Goals.{in-True, in-SwitchedOff+else-not-settings}
+
+pub returns-then-not-settings : goal.returns-then-not-settings
+returns-then-not-settings c =
+    sym (late_by_lem c.args.settings c.args.frame.now c.args.points.now c.args.kept _ c.requires.1 ∙ rw (c.in-SwitchedOff.is, c.if-not-settings.true))
+
+pub returns-in-Wrong : goal.returns-in-Wrong
+returns-in-Wrong c =
+    sym (late_by_lem c.args.settings c.args.frame.now c.args.points.now c.args.kept _ c.requires.1 ∙ rw c.in-Wrong.is)
+
+pub is_ours-requires : goal.is_ours-requires
+is_ours-requires c = c.requires.0
+
+pub returns-then-not-is_ours : goal.returns-then-not-is_ours
+returns-then-not-is_ours c =
+    sym
+    (late_by_lem c.args.settings c.args.frame.now c.args.points.now c.args.kept _ c.requires.1
+    ∙ elim c.match-sum.branch [
+      | in-True w ↦ rw (w.in-True.is, sym c.is_ours.ensures ∙ c.if-not-is_ours.true)
+      | in-SwitchedOff+else-not-settings w ↦ rw (w.in-SwitchedOff.is, w.if-not-settings.false, sym c.is_ours.ensures ∙ c.if-not-is_ours.true)
+    ])
+
+pub returns : goal.returns
+returns c =
+    let o = sym c.is_ours.ensures ∙ c.if-not-is_ours.false in
+    c.count_refusal.ensures
+    ∙ sym
+    (late_by_lem c.args.settings c.args.frame.now c.args.points.now c.args.kept _ c.requires.1
+    ∙ elim c.match-sum.branch [
+      | in-True w ↦ rw (w.in-True.is, o)
+      | in-SwitchedOff+else-not-settings w ↦ rw (w.in-SwitchedOff.is, w.if-not-settings.false, o)
+    ])
