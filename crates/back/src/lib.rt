@@ -1,4 +1,6 @@
 // The step back (document 01, "Journal" and "Refusal numbers"; document 02, a and b).
+#![tactic(auto)]
+
 ghost use Rattle.std.specs.Prelude.{◌≡◌, cond, eqb, length};
 ghost use Rattle.kinds.specs.Kinds.{points_tag, Sound, points_of, columns_of, integers_of, flags_of, size_of};
 ghost use Rattle.points.specs.Point.{effective_in};

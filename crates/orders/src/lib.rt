@@ -1,4 +1,6 @@
 // What a message orders, carried out in the area of its kind (document 01, "Each message"; document 02, a and b).
+#![tactic(auto)]
+
 ghost use Rattle.std.specs.Prelude.{◌≡◌, true, ◌≤◌, length};
 ghost use Rattle.frames.specs.Frame.{content_in};
 ghost use Rattle.kinds.specs.Kinds.{Sound};
