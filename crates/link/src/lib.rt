@@ -1,4 +1,6 @@
 // The link: every frame answered, at once or by a look before (document 01, and document 02, requests a, b, c, f, g and l).
+#![tactic(auto)]
+
 ghost use Rattle.std.specs.Prelude.{◌≡◌, [], ◌≤◌, length};
 ghost use Rattle.digits.specs.Laid.{laid};
 ghost use Rattle.calls.specs.Calls.{areas_of, call_of};
