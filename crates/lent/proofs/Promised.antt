@@ -1,23 +1,20 @@
 -- The laws of specs/Laws.antt.
-use Prim.Native.Nat.{ℕ, ◌≤◌}
+use Prim.Native.Nat.{ℕ}
 use mathlib.Core.Path.{◌≡◌, refl, sym, ap, ◌∙◌}
-use mathlib.Core.Bool.{Bool, true, false, cond, not}
-use mathlib.Core.List.{List}
+use mathlib.Core.Bool.{false}
 use lib.ListN.{length}
 use borrow.Author.Tests.{eq-eqb, ne_eqb, le-ltb}
 use Rattle.frames.specs.Frame.{content_in}
 use Rattle.kinds.specs.Kinds.{held_in}
-use Rattle.axes.specs.declared.AxisRecord.{AxisRecord}
 use Rattle.axes.specs.declared.Axes.{Axes}
 use Rattle.axes.specs.Records.{no_axes}
 use Rattle.axes.specs.Run.{lent_axes}
 use Rattle.messages.specs.Rows.{first_of}
 use Rattle.table.specs.Table.{message_of}
 use Rattle.messages.specs.Asked.{asked_rows}
-use Rattle.calls.specs.declared.Settings.{Settings}
-use Rattle.calls.specs.Calls.{Areas, lengths_of, call_of}
-use Rattle.refusals.specs.Refusals.{axes_fit, area_rows, refusal_of}
-use Rattle.refusals.proofs.Rows.{area_number, own_number, late_number, area_rows_lem, areas_pass, past_areas, refusal_is}
+use Rattle.calls.specs.Calls.{lengths_of, call_of}
+use Rattle.refusals.specs.Refusals.{axes_fit, refusal_of}
+use Rattle.refusals.proofs.Rows.{own_number, late_number, area_rows_lem, areas_pass, past_areas, refusal_is}
 use Rattle.lent.specs.Laws.{SameEight, OtherCount}
 
 pub same_eight : SameEight
