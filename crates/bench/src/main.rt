@@ -1,7 +1,7 @@
 // The bench program (document 01): frames from standard input, replies to standard output.
 #![tactic(auto)]
 
-ghost use Rattle.std.specs.Prelude.{◌+◌, ◌≤◌, length, IfOk};
+ghost use Rattle.std.specs.Prelude.{OnErr, ◌≡◌, ◌+◌, ◌≤◌, length, IfOk};
 ghost use Rattle.bench.specs.Turns.{Less};
 
 use areas::runs::move_run;
@@ -71,7 +71,8 @@ fn serve(
 // One read after the `have` bytes at the start, and how many bytes came: 0 at the end of the input.
 fn fill(input: &mut impl Read, line: &mut [u8], have: usize) -> io::Result<usize>
     requires { have ≤ length line.old }
-    ensures { IfOk result (λ n. have + n ≤ length line.new) }
+    ensures ok { IfOk result (λ n. have + n ≤ length line.new) }
+    ensures err { OnErr result (length line.new ≡ length line.old) }
 {
     input.read(&mut line[have..])
 }
@@ -85,7 +86,8 @@ fn pull(
     kept: Kept,
 ) -> io::Result<Turn>
     requires { (drop ≤ have) × (have ≤ length line.old) }
-    ensures { IfOk result (λ turn. Less turn (length line.old)) }
+    ensures ok { IfOk result (λ turn. Less turn (length line.old)) }
+    ensures err { OnErr result (length line.new ≡ length line.old) }
 {
     let left = have - drop;
     move_run(&mut *line, drop, left);
@@ -116,7 +118,8 @@ fn go_on(
     kept: Kept,
 ) -> io::Result<Turn>
     requires { have ≤ length line.old }
-    ensures { IfOk result (λ turn. Less turn (length line.old)) }
+    ensures ok { IfOk result (λ turn. Less turn (length line.old)) }
+    ensures err { OnErr result (length line.new ≡ length line.old) }
 {
     let found = find(&line[..have]);
     match found {

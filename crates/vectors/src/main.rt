@@ -1,7 +1,7 @@
 // Plays the second program's cases (second/README.md, "Vectors"), and writes a line for each call.
 #![tactic(auto)]
 
-ghost use Rattle.std.specs.Prelude.{◌+◌, ◌≤◌, ◌<◌, length, IfOk};
+ghost use Rattle.std.specs.Prelude.{OnErr, ◌≡◌, ◌+◌, ◌≤◌, ◌<◌, length, IfOk};
 
 use axes::{AxisRecord, read_axes};
 use back::{Back, step_back};
@@ -701,7 +701,8 @@ fn play_all(
 
 // What comes, until the area is full or the input ends, and how many bytes it was.
 fn read_full(input: &mut impl Read, area: &mut [u8]) -> io::Result<usize>
-    ensures { IfOk result (λ n. n ≤ length area.new) }
+    ensures ok { IfOk result (λ n. n ≤ length area.new) }
+    ensures err { OnErr result (length area.new ≡ length area.old) }
 {
     let mut have: usize = 0;
     while have < area.len() {

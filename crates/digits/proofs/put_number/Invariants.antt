@@ -1,8 +1,8 @@
 use Rattle.digits.proofs.Reading.{Left}
 use Rattle.digits.proofs.put_number.Given as goal
 
-abbrev pub invariant-loop-left : goal.invariant-loop-left
-invariant-loop-left l = Left l.at l.width l.n l.left l.rest l.initial.area l.area
+abbrev pub invariant-digits : goal.invariant-digits
+invariant-digits l = Left l.at l.width l.n l.left l.rest l.initial.area l.area
 
-abbrev pub decreases-loop-left : goal.decreases-loop-left
-decreases-loop-left l = l.left
+abbrev pub decreases-digits : goal.decreases-digits
+decreases-digits l = l.left
