@@ -28,7 +28,7 @@ use Rattle.queries.specs.Replies.{same_text, axes_text}
 use Rattle.orders.specs.Orders.{rest, writes, new_bytes, said_by}
 use Rattle.link.specs.Answer.{held, asked, text_of, areas_after, answer_of}
 use Rattle.link.proofs.Answering.{silent_answer, heard_answer}
-use Rattle.demands.specs.History.{ours}
+use Rattle.demands.proofs.Own.{own as ours}
 use Rattle.demands.specs.TestCalls.{handed}
 use Rattle.demands.proofs.Commands.{test_fits, framed, is_message, shape_is, is_content, too_short_lem, message_of_lem}
 use Rattle.demands.specs.SwitchedOff.{but_sum}

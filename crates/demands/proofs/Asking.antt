@@ -36,7 +36,8 @@ use Rattle.orders.specs.Orders.{said_by}
 use Rattle.link.specs.Answer.{held, asked, text_of, areas_after, answer_of}
 use Rattle.link.proofs.Answering.{heard_answer, accepted}
 use Rattle.orders.proofs.Judging.{Judged, judged_so}
-use Rattle.demands.specs.History.{message_by, ours}
+use Rattle.demands.specs.History.{message_by}
+use Rattle.demands.proofs.Own.{own as ours}
 use Rattle.demands.specs.Reading.{content, start_of, count_of, command_of, Host, allowed, asking, Says}
 use Rattle.demands.proofs.Commands.{test_fits, summed_by, Heard, heard, Names, message_of_lem}
 use Rattle.demands.proofs.Parts.{same_part}

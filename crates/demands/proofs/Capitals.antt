@@ -49,7 +49,7 @@ use Rattle.refusals.proofs.Tested.{shaped_long}
 use Rattle.orders.specs.Orders.{rest, said_by}
 use Rattle.orders.proofs.Judging.{not_so}
 use Rattle.link.specs.Answer.{held, asked, text_of}
-use Rattle.demands.specs.History.{ours}
+use Rattle.demands.proofs.Own.{own as ours}
 use Rattle.demands.specs.Releases.{InCapitals, RepliesInCapitals}
 use Rattle.demands.proofs.Refused.{answer_either}
 

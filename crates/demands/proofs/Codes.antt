@@ -31,7 +31,7 @@ use Rattle.messages.proofs.Judged.{Right}
 use Rattle.refusals.proofs.Tested.{sound}
 use Rattle.orders.specs.Orders.{said_by}
 use Rattle.link.proofs.Carrying.{areas_long}
-use Rattle.demands.specs.History.{ours}
+use Rattle.demands.proofs.Own.{own as ours}
 use Rattle.demands.specs.Reading.{content, start_of, count_of, rest_of, untouched, Says, asks_run, digits_from, kind_in, RunSaid, RunRead, RunTold}
 use Rattle.demands.proofs.Commands.{message_named, Names, named}
 use Rattle.demands.proofs.Asking.{Open, says, same_start, same_count, query_right, start_said, count_said, asks_right}

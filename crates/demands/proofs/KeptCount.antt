@@ -38,7 +38,8 @@ use Rattle.link.proofs.Carrying.{ordered_message}
 use Rattle.back.specs.Back.{back_of}
 use Rattle.back.proofs.Backing.{can_step_back, accepted_back, back_first}
 use Rattle.back.proofs.Recounting.{length_after}
-use Rattle.demands.specs.History.{ours, effective_of, CountTrue, message_by}
+use Rattle.demands.specs.History.{effective_of, CountTrue, message_by}
+use Rattle.demands.proofs.Own.{own as ours}
 use Rattle.demands.specs.Survive.{Accepted}
 use Rattle.demands.specs.KeptCount.{SameCount, wrong_at, id_named, to_four, Eleven, ElevenBack, over, KeptCount}
 use Rattle.demands.proofs.Refused.{one_number, changes_nothing, one_reply, number_given_lem, eight_other, asked_number, wrong, past_eight, up_to_eight, by_eleven}

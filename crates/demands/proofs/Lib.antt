@@ -1,3 +1,4 @@
+pub mod Own
 pub mod Refused
 pub mod Sole
 pub mod Replied

@@ -30,7 +30,8 @@ use Rattle.calls.specs.Calls.{Areas, Sent, lengths_of}
 use Rattle.refusals.proofs.Tested.{sound, true_fits}
 use Rattle.orders.specs.Orders.{writes, new_bytes}
 use Rattle.orders.proofs.Judging.{writable}
-use Rattle.demands.specs.History.{ours, effective_of, CountTrue}
+use Rattle.demands.specs.History.{effective_of, CountTrue}
+use Rattle.demands.proofs.Own.{own as ours}
 use Rattle.demands.specs.Reading.{content, start_of, count_of, rest_of, untouched, Says, sent_by, fitting, lists, list_room, asks_points, PointsRead, PointsGone, slots_from, Tells}
 use Rattle.demands.proofs.Commands.{counting, listing, writing, clearing, named}
 use Rattle.demands.proofs.Asking.{Open, says, same_start, same_count, query_right, start_said, count_said, asks_right}

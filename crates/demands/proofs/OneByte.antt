@@ -17,7 +17,7 @@ use Rattle.refusals.proofs.Rows.{EarlyPassed, past_early, told_said}
 use Rattle.link.specs.Answer.{answer_of}
 use Rattle.link.proofs.Answering.{silent_answer}
 use Rattle.demands.specs.Refused.{among}
-use Rattle.demands.specs.History.{ours}
+use Rattle.demands.proofs.Own.{own as ours}
 use Rattle.demands.specs.TestCalls.{handed}
 use Rattle.demands.specs.SwitchedOff.{early_numbers}
 use Rattle.demands.specs.OneByte.{Changed, Passes, misshapen, Caught, OnlySize, Unnoticed, OneByte}

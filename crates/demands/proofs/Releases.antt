@@ -43,7 +43,7 @@ use Rattle.orders.specs.Orders.{rest, new_bytes}
 use Rattle.link.specs.Answer.{held, asked, text_of, areas_after, answer_of}
 use Rattle.link.proofs.Carrying.{ordered_message}
 use Rattle.link.proofs.Answering.{heard_answer, accepted}
-use Rattle.demands.specs.History.{ours}
+use Rattle.demands.proofs.Own.{own as ours}
 use Rattle.demands.specs.Reading.{before, frame_with, command_of, asking}
 use Rattle.demands.specs.TestCalls.{handed}
 use Rattle.demands.specs.Releases.{under, CapitalsOnly, EitherSize, Either, SameUnderTwo, Releases, SameAnswer}

@@ -20,7 +20,7 @@ use Rattle.table.specs.declared.Action.TheVariants.{ShowFlags}
 use Rattle.calls.specs.Calls.{Areas, Sent, lengths_of}
 use Rattle.refusals.proofs.Tested.{sound}
 use Rattle.heads.specs.Heads.{flags_text}
-use Rattle.demands.specs.History.{ours}
+use Rattle.demands.proofs.Own.{own as ours}
 use Rattle.demands.specs.Reading.{start_of, rest_of, untouched, Says, kind_in, asks_flags, FlagShown, FlagRead, FlagStored}
 use Rattle.demands.proofs.Commands.{showing, setting, named}
 use Rattle.demands.proofs.Asking.{Open, says, start_said, count_said, asks_right}

@@ -26,7 +26,8 @@ use Rattle.frames.proofs.Three.{said_off, one_of_three}
 use Rattle.digits.proofs.Bools.{was_not}
 use Rattle.refusals.proofs.Rows.{call_passed}
 use Rattle.link.proofs.Carrying.{fine}
-use Rattle.demands.specs.History.{message_by, ours, effective_of}
+use Rattle.demands.specs.History.{message_by, effective_of}
+use Rattle.demands.proofs.Own.{own as ours}
 use Rattle.demands.specs.Reading.{start_of, count_of, RunRead, IntegersStored, FlagRead, FlagStored, PointsRead, PointsGone, Reads}
 use Rattle.demands.specs.Survive.{Accepted, HeardAgain, effective_named, Once, EveryDigitSurvives}
 use Rattle.demands.proofs.Refused.{one_number}

@@ -28,7 +28,8 @@ use Rattle.refusals.proofs.Rows.{EarlyPassed, forbidden, late_number, early_numb
 use Rattle.link.specs.Answer.{held, asked, text_of, areas_after, answer_of}
 use Rattle.link.proofs.Answering.{silent_answer, heard_answer, asked_number_lem}
 use Rattle.demands.specs.Refused.{among}
-use Rattle.demands.specs.History.{message_by, ours}
+use Rattle.demands.specs.History.{message_by}
+use Rattle.demands.proofs.Own.{own as ours}
 use Rattle.demands.specs.SwitchedOff.{allowing, silent_before, Before, but_sum, AsBefore, OffAsTrue, Forbidden, OthersSame, early_numbers, SumTold, SwitchedOffRule, ContractAsBefore}
 use Rattle.demands.specs.Reading.{before, command_of}
 use Rattle.demands.proofs.Refused.{answer_either, told_is, number_given_lem, wrong, asked_high}

@@ -28,7 +28,7 @@ use Rattle.refusals.proofs.Rows.{area_rows_lem, areas_pass, call_passed}
 use Rattle.refusals.proofs.Tested.{shape}
 use Rattle.link.specs.Answer.{held, asked, answer_of}
 use Rattle.demands.specs.Refused.{asks_write}
-use Rattle.demands.specs.History.{ours}
+use Rattle.demands.proofs.Own.{own as ours}
 use Rattle.demands.specs.Reading.{before as beforeSC, asking, Host, allowed}
 use Rattle.demands.specs.TestCalls.{test_call, handed, to_found, Unrefused, SaidBack, EveryTestCall, OtherLength, NoErrorReply, TestCalls}
 use Rattle.demands.proofs.Refused.{by_six, answer_either, silent_low, query_changes_nothing}

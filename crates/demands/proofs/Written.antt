@@ -26,7 +26,8 @@ use Rattle.orders.specs.Orders.{writes}
 use Rattle.link.specs.Answer.{held, answer_of}
 use Rattle.orders.proofs.Judging.{Writable, writable}
 use Rattle.link.proofs.Carrying.{fine, areas_long}
-use Rattle.demands.specs.History.{ours, effective_of, CountTrue}
+use Rattle.demands.specs.History.{effective_of, CountTrue}
+use Rattle.demands.proofs.Own.{own as ours}
 use Rattle.demands.specs.Reading.{content, start_of, count_of}
 use Rattle.demands.specs.Survive.{Outside, OnlyNamed}
 use Rattle.demands.specs.LookFirst.{kind_named, bytes_said}

@@ -36,12 +36,9 @@ impl From<Found> for Finding {
     }
 }
 
-/// Something that is compared with the second program. A board that is wrong in one call makes the others as
-/// the second program does.
+/// Something that is compared with the second program.
 pub trait Calls {
-    fn receive(&self, received: &[u8]) -> Finding {
-        frames::find(received).into()
-    }
+    fn receive(&self, received: &[u8]) -> Finding;
 
     fn answer(
         &self,
@@ -50,11 +47,10 @@ pub trait Calls {
         axes: &[u8],
         settings: Settings,
         reply: &mut [u8],
-    ) -> Outcome {
-        on_board(areas, |board| link::answer(frame, board, axes, settings, reply))
-    }
+    ) -> Outcome;
 
-    /// What is lent may be written, so that a board which does is found.
+    /// What is lent may be written, so that a board which does is found. One that is wrong in something
+    /// else checks as the second program does.
     fn check(&self, frame: &[u8], areas: &mut Areas, axes: &[u8], settings: Settings) -> Shown {
         on_board(areas, |board| link::check(frame, board, axes, settings))
     }
@@ -71,15 +67,28 @@ pub trait Calls {
         self.answer(frame, areas, axes, settings, reply)
     }
 
-    fn step_back(&self, areas: &mut Areas, firsts: Firsts) -> u16 {
-        on_board(areas, |board| link::step_back(board, firsts))
-    }
+    fn step_back(&self, areas: &mut Areas, firsts: Firsts) -> u16;
 }
 
 /// The second program itself, to try the comparison on.
 pub struct SecondProgram;
 
 impl Calls for SecondProgram {
+    fn receive(&self, received: &[u8]) -> Finding {
+        frames::find(received).into()
+    }
+
+    fn answer(
+        &self,
+        frame: &[u8],
+        areas: &mut Areas,
+        axes: &[u8],
+        settings: Settings,
+        reply: &mut [u8],
+    ) -> Outcome {
+        on_board(areas, |board| link::answer(frame, board, axes, settings, reply))
+    }
+
     fn act(
         &self,
         frame: &[u8],
@@ -89,6 +98,10 @@ impl Calls for SecondProgram {
         reply: &mut [u8],
     ) -> Outcome {
         on_board(areas, |board| link::act(frame, board, axes, settings, reply))
+    }
+
+    fn step_back(&self, areas: &mut Areas, firsts: Firsts) -> u16 {
+        on_board(areas, |board| link::step_back(board, firsts))
     }
 }
 
