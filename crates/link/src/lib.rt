@@ -138,6 +138,7 @@ pub fn check(
 }
 
 // The second half: checks again, by the same rules, and does it, with the reply.
+#[tactic(auto, using(crate::proofs::Checking::acted_short))]
 pub fn act(
     frame: &[u8],
     points: &mut [u8],

@@ -39,6 +39,7 @@ fn fits_points(points: usize) -> bool
 }
 
 // Refusal 10, passed: 400 bytes of integers, 300 of flags, and last numbers that fit into their fields.
+#[tactic(auto, unfolding(crate::specs::Refusals::variables_fit))]
 fn fits_variables(integers: usize, flags: usize, firsts: Firsts) -> bool
     ensures { result ≡ variables_fit integers flags firsts }
 {
@@ -250,6 +251,7 @@ pub fn silent(
 }
 
 // The step back's refusal: 2, 3, 10, 4, 11, then 9, or 0.
+#[tactic(auto, using(crate::proofs::Rows::back_9))]
 pub fn back_refusal(lengths: Lengths, points: &[u8], journal: &[u8], kept: Kept) -> u16
     requires { lengths.points ≡ length points.now }
     ensures { result ≡ first_of (back_rows lengths points.now journal.now kept) }

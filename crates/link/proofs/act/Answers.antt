@@ -3,30 +3,25 @@ use mathlib.Core.Path.{sym, ◌∙◌}
 use native.Mathlib.Omega.{arith}
 use lib.ListN.{length}
 use Rattle.calls.specs.Calls.{Call, call_of, areas_of}
-use Rattle.link.proofs.Checking.{without_reply_lem, same_act, same_gives, acted_short, acted_refused, acted_heard, acted_told}
+use Rattle.link.proofs.Checking.{without_reply_lem, same_act, same_gives, acted_refused, acted_heard, acted_told}
 use Rattle.link.proofs.Outcomes.{accepted_so}
 use Rattle.link.proofs.act.Goals as goal
 
-pub returns-then-reply-lt1024 : goal.returns-then-reply-lt1024
-returns-then-reply-lt1024 c =
-    let call : Call = call_of c.args.frame.now c.args.axes c.args.settings c.args.reply.now (areas_of c.args.points.now c.args.columns.now c.args.integers.now c.args.flags.now c.args.journal.now c.args.kept c.args.firsts) in
-    acted_short call c.if-reply-lt1024.true
-
 pub refuse-requires : goal.refuse-requires
 refuse-requires c =
-    let long : 1024 ≤ length c.args.reply.now = c.if-reply-lt1024.false in
+    let long : 1024 ≤ length c.args.reply.now = omega arith in
     omega (arith, long)
 
 pub perform-done-requires : goal.perform-done-requires
 perform-done-requires c =
     let call : Call = call_of c.args.frame.now c.args.axes c.args.settings c.args.reply.now (areas_of c.args.points.now c.args.columns.now c.args.integers.now c.args.flags.now c.args.journal.now c.args.kept c.args.firsts) in
-    let long : 1024 ≤ length c.args.reply.now = c.if-reply-lt1024.false in
+    let long : 1024 ≤ length c.args.reply.now = omega arith in
     acted_heard call long (c.check-checked.ensures ∙ without_reply_lem call) _ c.in-Order.is c.held_in.ensures
 
 pub returns-in-Refused : goal.returns-in-Refused
 returns-in-Refused c =
     let call : Call = call_of c.args.frame.now c.args.axes c.args.settings c.args.reply.now (areas_of c.args.points.now c.args.columns.now c.args.integers.now c.args.flags.now c.args.journal.now c.args.kept c.args.firsts) in
-    let long : 1024 ≤ length c.args.reply.now = c.if-reply-lt1024.false in
+    let long : 1024 ≤ length c.args.reply.now = omega arith in
     acted_refused call long (c.check-checked.ensures ∙ without_reply_lem call) _ _ _ c.in-Refused.is
     c.refuse.ensures.number_value
     c.refuse.ensures.reply_after
@@ -34,7 +29,7 @@ returns-in-Refused c =
 pub returns-in-Order : goal.returns-in-Order
 returns-in-Order c =
     let call : Call = call_of c.args.frame.now c.args.axes c.args.settings c.args.reply.now (areas_of c.args.points.now c.args.columns.now c.args.integers.now c.args.flags.now c.args.journal.now c.args.kept c.args.firsts) in
-    let long : 1024 ≤ length c.args.reply.now = c.if-reply-lt1024.false in
+    let long : 1024 ≤ length c.args.reply.now = omega arith in
     let k = call in
     same_gives k (sym (same_act k))
     (accepted_so _ c.accept.ensures (acted_told k long (c.check-checked.ensures ∙ without_reply_lem k)) c.perform-done.ensures)

@@ -1,5 +1,6 @@
 use mathlib.Core.Path.{sym, ◌∙◌}
-use Rattle.refusals.proofs.Rows.{back_area, back_points, back_11, back_9, back_0}
+use Rattle.refusals.proofs.Rows.{back_area, back_points, back_11, back_0}
+use native.Mathlib.Omega.{arith}
 use Rattle.refusals.proofs.back_refusal.Goals as goal
 
 pub returns-then-number-ne0 : goal.returns-then-number-ne0
@@ -18,18 +19,10 @@ returns-then-not-is_count_true c =
     (sym c.area_refusal-number.ensures ∙ c.if-number-ne0.false)
     (sym c.is_count_true.ensures ∙ c.if-not-is_count_true.true)
 
-pub returns-then-kept-eq0 : goal.returns-then-kept-eq0
-returns-then-kept-eq0 c =
-    let a = c.args in
-    back_9 a.lengths a.journal.now a.kept a.points.now
-    (sym c.area_refusal-number.ensures ∙ c.if-number-ne0.false)
-    (sym c.is_count_true.ensures ∙ c.if-not-is_count_true.false)
-    c.if-kept-eq0.true
-
 pub returns : goal.returns
 returns c =
     let a = c.args in
     back_0 a.lengths a.journal.now a.kept a.points.now
     (sym c.area_refusal-number.ensures ∙ c.if-number-ne0.false)
     (sym c.is_count_true.ensures ∙ c.if-not-is_count_true.false)
-    c.if-kept-eq0.false
+    (λ e. omega (arith, e))

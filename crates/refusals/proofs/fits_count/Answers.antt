@@ -1,18 +1,15 @@
 use mathlib.Core.Path.{sym, ap}
 use mathlib.Core.Bool.{not}
-use mathlib.Core.Logic.{inl, inr}
+use mathlib.Core.Logic.{inl, inr, ⊎_elim}
 use Rattle.refusals.proofs.Tested.{write_fits, poll_fits, other_fits}
+use native.Mathlib.Omega.{arith}
 use Rattle.refusals.proofs.fits_count.Goals as goal
-use Rattle.refusals.proofs.fits_count.Goals.{then-id-eq580-via-then-id-eq580, then-id-eq580-via-else-id-eq580+then-id-eq582}
 
 pub returns-then-id-eq580 : goal.returns-then-id-eq580
 returns-then-id-eq580 c =
     let a = c.args in
     write_fits a.id a.points.now a.effective
-    (elim c.then-id-eq580.branch [
-      | then-id-eq580-via-then-id-eq580 w ↦ inl w.if-id-eq580.true
-      | then-id-eq580-via-else-id-eq580+then-id-eq582 w ↦ inr w.if-id-eq582.true
-    ])
+    (⊎_elim inl (λ e. inr e.1) c.then-id-eq580.either)
     c.is_count_true.ensures
 
 pub returns-then-id-eq520 : goal.returns-then-id-eq520
@@ -21,4 +18,4 @@ returns-then-id-eq520 c = let a = c.args in poll_fits a.id a.points.now a.effect
 pub returns : goal.returns
 returns c =
     let a = c.args in
-    sym (ap not (other_fits a.id a.points.now a.effective c.if-id-eq580.false c.if-id-eq582.false c.if-id-eq520.false))
+    sym (ap not (other_fits a.id a.points.now a.effective (λ e. omega (arith, e)) (λ e. omega (arith, e)) (λ e. omega (arith, e))))
