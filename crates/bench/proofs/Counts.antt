@@ -1,4 +1,4 @@
--- What the finder says of its counts, where the case is known.
+-- What the finder and a turn say of their counts, where the case is known.
 use Prim.Native.Nat.{ℕ, ◌≤◌}
 use mathlib.Core.Path.{◌≡◌, subst, sym, ◌∙◌}
 use mathlib.Core.List.{List}
@@ -8,6 +8,13 @@ use Rattle.finder.specs.declared.Found.{Found}
 use Rattle.finder.specs.declared.Found.TheVariants.{Frame, Nothing, Wait, TooLong}
 use Rattle.finder.specs.Find.{find_in}
 use Rattle.finder.proofs.Finding.{Within, within}
+use Rattle.calls.specs.declared.Kept.{Kept}
+use Rattle.bench.specs.Turns.{Less}
+use Rattle.bench.specs.declared.Turn.{Turn}
+use Rattle.bench.specs.declared.Turn.TheVariants.{On}
+
+pub on : {r : Turn} {have : ℕ} {kept : Kept} (n : ℕ) → Less r n → r ≡ On have kept → have ≤ n
+on n w e = subst (λ (x : Turn). Less x n) e w
 
 module _ (line : List ℕ) (have : ℕ) (h : have ≤ length line) where
   held : {f g : Found} → f ≡ find_in (take have line) → f ≡ g → Within g have
