@@ -33,8 +33,7 @@ use Rattle.link.specs.Answer.{asked, answer_of}
 use Rattle.back.proofs.Backing.{accepted_back}
 use Rattle.back.specs.Back.{back_of}
 use Rattle.demands.specs.Refused.{asks_write}
-use Rattle.demands.specs.History.{message_by, Event, frame, step_back, call_on, after, accepted_write, but_last, standing, Past, past, alone, all_accepted, entries, run_said, entry_said, entry_by, stored, account, entered, Holds, EveryHistory}
-use Rattle.demands.proofs.Own.{own as ours}
+use Rattle.demands.specs.History.{message_by, Event, frame, step_back, call_on, after, accepted_write, but_last, standing, Past, past, alone, all_accepted, entries, run_said, entry_said, entry_by, stored, account, entered, Holds, EveryHistory, ours}
 use Rattle.demands.proofs.Refused.{one_number, by_eleven, changes_nothing, query_changes_nothing}
 use Rattle.demands.proofs.Shaped.{Bounds, Shape, takes, number_on, held_is, journal_long, entries_held, same_entries, count_true_lem, takes_is, back_is}
 use Rattle.demands.proofs.Wrote.{Writes, ordered, entry_of, old_by, written_by, wrote, same_put, undone, shaped}

@@ -1,4 +1,3 @@
-pub mod Own
 pub mod Refused
 pub mod Sole
 pub mod Replied
@@ -7,6 +6,7 @@ pub mod Lengths
 pub mod Shaped
 pub mod Wrote
 pub mod Histories
+pub mod Own
 pub mod Commands
 pub mod Asking
 pub mod Journals

@@ -23,8 +23,7 @@ use Rattle.refusals.specs.Refusals.{points_fit, variables_fit, least_journal, jo
 use Rattle.refusals.proofs.Rows.{AreasPass, past_areas, own_back, back_rows_lem, own_number, sum_number, refusal_is}
 use Rattle.refusals.proofs.Tested.{true_fits}
 use Rattle.demands.specs.Refused.{asks_write}
-use Rattle.demands.specs.History.{message_by, call_on, accepted_write, CountTrue, entries}
-use Rattle.demands.proofs.Own.{own as ours}
+use Rattle.demands.specs.History.{message_by, call_on, accepted_write, CountTrue, entries, ours}
 use Rattle.demands.proofs.Refused.{one_number}
 use Rattle.demands.proofs.Journals.{area_long}
 

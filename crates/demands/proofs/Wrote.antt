@@ -30,8 +30,7 @@ use Rattle.link.specs.Answer.{areas_after, stored_by, answer_of}
 use Rattle.link.proofs.Answering.{accepted, heard_answer}
 use Rattle.orders.proofs.Judging.{Writable, writable, judged_so}
 use Rattle.demands.specs.Refused.{asks_write}
-use Rattle.demands.specs.History.{frame, call_on, after}
-use Rattle.demands.proofs.Own.{own as ours}
+use Rattle.demands.specs.History.{frame, call_on, after, ours}
 use Rattle.demands.proofs.Journals.{added_fits}
 use Rattle.demands.proofs.Shaped.{Bounds, Shape, held_is, journal_long, entries_held}
 
