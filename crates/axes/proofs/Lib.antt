@@ -1,3 +1,1 @@
-pub mod Eight
-pub mod Counted
 pub mod Reading

@@ -2,7 +2,7 @@
 #![tactic(auto)]
 
 ghost use Rattle.std.specs.Prelude.{◌≡◌, ◌+◌, ◌≤◌, length, drop, replicate};
-ghost use Rattle.axes.specs.Records.{zero_record, eight_axes, no_axes};
+ghost use Rattle.axes.specs.Records.{zero_record, records_of};
 ghost use Rattle.axes.specs.Run.{lent_axes};
 ghost use Rattle.axes.specs.Axes.{record_in, records_in, axes_in};
 
@@ -19,12 +19,8 @@ pub struct AxisRecord {
     pub position: Position,
 }
 
-// The axis records, and whether there were eight.
-#[derive(Clone, Copy)]
-pub struct Axes {
-    pub eight: bool,
-    pub records: [AxisRecord; 8],
-}
+// The eight axis records, or none where another count was lent: refusal 5.
+pub type Axes = Option<[AxisRecord; 8]>;
 
 // What stands for the records where there are not eight.
 fn no_records() -> [AxisRecord; 8]
@@ -40,44 +36,18 @@ fn no_records() -> [AxisRecord; 8]
     [zero; 8]
 }
 
-fn eight_axes(records: [AxisRecord; 8]) -> Axes
-    ensures { result ≡ eight_axes records }
+// The eight records; zeros stand for them where there are not eight.
+pub fn records_of(axes: Axes) -> [AxisRecord; 8]
+    ensures { result ≡ records_of axes }
 {
-    Axes {
-        eight: true,
-        records,
-    }
-}
-
-// Another count than eight: refusal 5, whatever the records are.
-fn no_axes() -> Axes
-    ensures { result ≡ no_axes }
-{
-    Axes {
-        eight: false,
-        records: no_records(),
-    }
-}
-
-// A run of eight as an array by value, since everything behind it takes the records so.
-pub fn eight_of(records: &[AxisRecord]) -> [AxisRecord; 8]
-    requires { length records.now ≡ 8 }
-    ensures { result ≡ records.now }
-{
-    [
-        records[0], records[1], records[2], records[3], records[4], records[5], records[6],
-        records[7],
-    ]
+    axes.unwrap_or(no_records())
 }
 
 // The lent run is read here alone, so that the rest takes the array by value.
 pub fn axes_of(records: &[AxisRecord]) -> Axes
     ensures { result ≡ lent_axes records.now }
 {
-    if records.len() != 8 {
-        return no_axes();
-    }
-    eight_axes(eight_of(records))
+    <[AxisRecord; 8]>::try_from(records).ok()
 }
 
 // The record whose nine bytes stand at a place.
@@ -99,15 +69,14 @@ fn record_at(bytes: &[u8], at: usize) -> AxisRecord
     }
 }
 
+// Eight records, one behind the other: axis 1 first.
 fn records_in(bytes: &[u8]) -> [AxisRecord; 8]
     requires { 72 ≤ length bytes.now }
     ensures { result ≡ records_in 8 bytes.now }
 {
     let mut records = no_records();
-    let mut next = 0;
-    while next < 8 {
+    for next in 0..8 {
         records[next] = record_at(bytes, next * 9);
-        next += 1;
     }
     records
 }
@@ -117,7 +86,7 @@ pub fn read_axes(bytes: &[u8]) -> Axes
     ensures { result ≡ axes_in bytes.now }
 {
     if bytes.len() != 72 {
-        return no_axes();
+        return None;
     }
-    eight_axes(records_in(bytes))
+    Some(records_in(bytes))
 }

@@ -18,7 +18,7 @@ use Rattle.journal.specs.declared.Last.{Last}
 use Rattle.journal.proofs.Codec.{Bytes}
 use Rattle.journal.proofs.Back.{holds_back}
 use Rattle.messages.specs.Rows.{first_of}
-use Rattle.calls.specs.declared.Told.TheVariants.{Untested}
+use Rattle.std.specs.Prelude.{None}
 use Rattle.calls.specs.Calls.{Areas, Outcome, areas_of, lengths_of, unanswered, stepped_back}
 use Rattle.refusals.specs.Refusals.{count_true, back_rows, back_refusal_of}
 use Rattle.refusals.proofs.Rows.{areas_pass, back_rows_lem}
@@ -28,11 +28,11 @@ use Rattle.back.specs.Back.{back_of, StepsBack}
 use Rattle.calls.proofs.Parts.{equal_parts}
 
 -- the step back's outcome
-pub refused_back : (a : Areas) (k : ℕ) → k ≡ back_refusal_of a → (k ≡ 0 → ⊥) → back_of a ≡ unanswered Untested k a
+pub refused_back : (a : Areas) (k : ℕ) → k ≡ back_refusal_of a → (k ≡ 0 → ⊥) → back_of a ≡ unanswered None k a
 unfolding back_of
 refused_back a k e n = rw (← e, ne_eqb k 0 n)
 
-pub accepted_back : (a : Areas) → back_refusal_of a ≡ 0 → back_of a ≡ unanswered Untested 0 (stepped_back (held_in (lengths_of a)) a)
+pub accepted_back : (a : Areas) → back_refusal_of a ≡ 0 → back_of a ≡ unanswered None 0 (stepped_back (held_in (lengths_of a)) a)
 unfolding back_of
 accepted_back a e = rw e
 

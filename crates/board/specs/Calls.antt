@@ -6,7 +6,8 @@ use Rattle.finder.specs.Find.{drop_of}
 use Rattle.kinds.specs.declared.Firsts.{Firsts}
 use Rattle.calls.specs.declared.Settings.{Settings}
 use Rattle.calls.specs.declared.Kept.{Kept}
-use Rattle.calls.specs.declared.Told.{Told}
+use Rattle.std.specs.Prelude.{Option}
+use Rattle.frames.specs.declared.checks.Sum.{Sum}
 use Rattle.calls.specs.Calls.{Areas, Call, Outcome, sum_code}
 use Rattle.messages.specs.declared.Shown.{Shown}
 use Rattle.messages.specs.Shown.{shown_of}
@@ -55,7 +56,7 @@ kept_of used effective = record { used = used; effective = effective }
 abbrev pub firsts_of : ℕ → ℕ → Firsts
 firsts_of integer flag = record { integer = integer; flag = flag }
 
-abbrev pub answered_of : ℕ → ℕ → Kept → Told → Answered
+abbrev pub answered_of : ℕ → ℕ → Kept → Option Sum → Answered
 answered_of number length kept told = record { number = number; length = length; kept = kept; sum = told }
 
 -- what `cabinet_answer` and `cabinet_act` give of a call: its outcome, with the code of what it tells

@@ -5,13 +5,14 @@ use Rattle.kinds.specs.declared.Lengths.{Lengths}
 use Rattle.kinds.specs.declared.Firsts.{Firsts}
 use Rattle.kinds.specs.Kinds.{points_tag, columns_tag, integers_tag, flags_tag, points_of, columns_of, integers_of, flags_of, kind_of, size_of, run_of}
 use Rattle.journal.specs.Journal.{Entry, encodes, entries_in, added, area_of, last_entry, others, puts, entry_for}
-use Rattle.axes.specs.declared.Axes.{Axes}
+use Rattle.axes.specs.Records.{Axes}
 use Rattle.points.specs.Point.{effective_in}
 use Rattle.calls.specs.declared.Settings.{Settings}
 use Rattle.calls.specs.declared.Kept.{Kept}
 use Rattle.frames.specs.declared.checks.Sum.TheVariants.{True, SwitchedOff, Wrong}
-use Rattle.calls.specs.declared.Told.{Told}
-use Rattle.calls.specs.declared.Told.TheVariants.{Untested, Said}
+use Rattle.std.specs.Prelude.{Option}
+use Rattle.frames.specs.declared.checks.Sum.{Sum}
+use Rattle.std.specs.Prelude.{None, Some}
 
 -- the areas that are used throughout, with the numbers that are kept beside them and the first numbers that settings give (02, a)
 pub record Areas : Type 0 where
@@ -39,18 +40,18 @@ pub record Outcome : Type 0 where
   pub number : ℕ
   pub text : List ℕ
   pub areas : Areas
-  pub sum : Told
+  pub sum : Option Sum
 
 -- nothing is changed and nothing is replied
-abbrev pub unanswered : Told → ℕ → Areas → Outcome
+abbrev pub unanswered : Option Sum → ℕ → Areas → Outcome
 unanswered told number a = record { number = number; text = []; areas = a; sum = told }
 
 -- the number of what is told of the sum: 0 untested, 1 true, 2 switched off, 3 wrong (02, f)
-abbrev pub sum_code : Told → ℕ
-sum_code Untested = 0
-sum_code (Said True) = 1
-sum_code (Said SwitchedOff) = 2
-sum_code (Said Wrong) = 3
+abbrev pub sum_code : Option Sum → ℕ
+sum_code None = 0
+sum_code (Some True) = 1
+sum_code (Some SwitchedOff) = 2
+sum_code (Some Wrong) = 3
 
 -- areas, what is sent, and a call, as they are handed over
 abbrev pub areas_of : List ℕ → List ℕ → List ℕ → List ℕ → List ℕ → Kept → Firsts → Areas

@@ -24,23 +24,14 @@ pub struct Kept {
     pub effective: usize,
 }
 
-// That an earlier refusal left the frame untested, or what the sum test said.
-#[derive(Clone, Copy)]
-pub enum Told {
-    Untested,
-    Said(Sum),
-}
-
-// 0 untested, 1 true, 2 switched off, 3 wrong.
-pub fn sum_code(told: Told) -> u8
+// The code of what is told of the sum: 0 none, since an earlier refusal left the frame untested; 1 true, 2 switched off, 3 wrong.
+pub fn sum_code(told: Option<Sum>) -> u8
     ensures { result ≡ sum_code told }
 {
     match told {
-        Told::Untested => 0,
-        Told::Said(sum) => match sum {
-            Sum::True => 1,
-            Sum::SwitchedOff => 2,
-            Sum::Wrong => 3,
-        },
+        None => 0,
+        Some(Sum::True) => 1,
+        Some(Sum::SwitchedOff) => 2,
+        Some(Sum::Wrong) => 3,
     }
 }

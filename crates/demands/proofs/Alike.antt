@@ -16,10 +16,10 @@ use Rattle.kinds.specs.Kinds.{kind_of, held_in}
 use Rattle.table.specs.declared.Action.{Action}
 use Rattle.table.specs.declared.Action.TheVariants.{SayBack, CountPoints, ListPoints, ReadRun, AxisStatus, WritePoints, ClearRun, ChangeRun, ShowFlags, SetFlag}
 use Rattle.table.specs.declared.Message.{Message}
-use Rattle.table.specs.declared.Named.{Named}
+use Rattle.std.specs.Prelude.{Option}
 use Rattle.table.specs.Table.{message_of, rest_in}
-use Rattle.messages.specs.declared.Asked.{Asked}
-use Rattle.messages.specs.declared.Asked.TheVariants.{Refused, Order}
+use Rattle.messages.specs.Asked.{Asked}
+use Rattle.messages.specs.Asked.{Refused, Order}
 use Rattle.messages.specs.Asked.{asked_of, judged, number_given}
 use Rattle.calls.specs.Calls.{Areas, Sent, Call, call_of, lengths_of, area_in, written}
 use Rattle.refusals.specs.Refusals.{axes_fit, release_fits, miscounted, silent_of}
@@ -213,7 +213,7 @@ fields_alike a h f g shape forbids wrong ours same_id same_content =
       station = ours;
       names = same_name;
       asks = λ s.
-          ap₂ (λ (n : Named) (t : List ℕ). judged (held_in (lengths_of a)) h.settings.fitted h.settings.release n t) (same_name s)
+          ap₂ (λ (n : Option Message) (t : List ℕ). judged (held_in (lengths_of a)) h.settings.fitted h.settings.release n t) (same_name s)
           (same_content s);
       does = λ s z _.
           done_alike a h f g z

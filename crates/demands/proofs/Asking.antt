@@ -20,10 +20,10 @@ use Rattle.table.specs.declared.Follows.{Follows}
 use Rattle.table.specs.declared.Follows.TheVariants.{Nothing}
 use Rattle.table.specs.declared.Action.{Action}
 use Rattle.table.specs.declared.Message.{Message}
-use Rattle.table.specs.declared.Named.{Named}
-use Rattle.table.specs.declared.Named.TheVariants.{Known}
-use Rattle.messages.specs.declared.Asked.{Asked}
-use Rattle.messages.specs.declared.Asked.TheVariants.{Order}
+use Rattle.std.specs.Prelude.{Option}
+use Rattle.std.specs.Prelude.{Some}
+use Rattle.messages.specs.Asked.{Asked}
+use Rattle.messages.specs.Asked.{Order}
 use Rattle.table.specs.Table.{row, message_of, fields_of, program_in, start_in, count_in, any_bytes}
 use Rattle.messages.specs.Asked.{asked_of, judged, number_given}
 use Rattle.messages.proofs.Judged.{Right, told, ordered}
@@ -60,7 +60,7 @@ pub record Ordered (h : Held) (m : Message) (s : Sent) : Type 0 where
   pub assured : Judged h (content s) m (start_of m s) (count_of m s)
 
 -- a frame that is ordered so has passed them, and orders what its own message reads in its content
-pub ordered_so : (h : Held) (s : Sent) (m : Message) → message_by s ≡ Known m → {m' : Message} {start count : ℕ}
+pub ordered_so : (h : Held) (s : Sent) (m : Message) → message_by s ≡ Some m → {m' : Message} {start count : ℕ}
     → asked_of h s.settings.fitted s.settings.release s.frame ≡ Order m' start count → Ordered h m s × (asked_of h s.settings.fitted s.settings.release s.frame ≡ order_of m (content s))
 unfolding asked_of
 ordered_so h s m known {m'} {start} {count} e =
@@ -69,11 +69,11 @@ ordered_so h s m known {m'} {start} {count} e =
     let t = told h f l (message_by s) (content s) m' start count e in
     let same : m' ≡ m = let k = t.message in cc in
     let r : Right h f l m (content s) = subst (λ (x : Message). Right h f l x (content s)) same t.rows in
-    let o : judged h f l (message_by s) (content s) ≡ order_of m (content s) = ap (λ (n : Named). judged h f l n (content s)) known ∙ ordered h f l m (content s) r in
+    let o : judged h f l (message_by s) (content s) ≡ order_of m (content s) = ap (λ (n : Option Message). judged h f l n (content s)) known ∙ ordered h f l m (content s) r in
     (record { right = r; assured = judged_so h f l s.frame m (start_of m s) (count_of m s) o }, o)
 
 -- its number alone tells all that
-pub took : (m : Message) (c : Call) → message_by c.sent ≡ Known m → (answer_of c).number ≡ 0 → Took m c
+pub took : (m : Message) (c : Call) → message_by c.sent ≡ Some m → (answer_of c).number ≡ 0 → Took m c
 took m c known number =
     let a = accepted c number in
     let o = ordered_so (held c) c.sent m known a.order in
@@ -130,7 +130,7 @@ module _ (a : Areas) (h : Sent) (frame : List ℕ) where
   unfolding asked_of
   asked_there asks q d e r =
       let l = h.settings.release in
-      ap₂ (λ (n : Named) (s : List ℕ). judged (held_in (lengths_of a)) h.settings.fitted l n s) (message_of_lem l frame (take 3 asks) d.message ∙ e l) d.content
+      ap₂ (λ (n : Option Message) (s : List ℕ). judged (held_in (lengths_of a)) h.settings.fitted l n s) (message_of_lem l frame (take 3 asks) d.message ∙ e l) d.content
       ∙ ordered (held_in (lengths_of a)) h.settings.fitted l q (drop 3 asks) r
 
 -- asked so by a host that is heard, with a true SC or an allowed '@@', the board hears it, takes it as this order and accepts it
@@ -146,8 +146,8 @@ pub taken_as : (a : Areas) (asks : List ℕ) (q : Message) → Open a → count_
 taken_as a asks q p n least most fits e r h o b g =
     let frame = command_of b h.settings.station asks in
     let d = heard h.settings.release b h.settings.station asks o.station_byte least most fits in
-    let m : message_of h.settings.release frame ≡ Known q = message_of_lem h.settings.release frame (take 3 asks) d.message ∙ e h.settings.release in
-    let z = heard_there a h frame b asks o g p (ap (λ (x : Named). miscounted x a.points a.kept.effective) m ∙ ap not n) d in
+    let m : message_of h.settings.release frame ≡ Some q = message_of_lem h.settings.release frame (take 3 asks) d.message ∙ e h.settings.release in
+    let z = heard_there a h frame b asks o g p (ap (λ (x : Option Message). miscounted x a.points a.kept.effective) m ∙ ap not n) d in
     let w = asked_there a h frame asks q d e (r h.settings.fitted h.settings.release) in
     record { is_heard = d; again = z; order = w; accepts = ap (λ (x : Outcome). x.number) (heard_answer (asking a h b asks) z) ∙ ap number_given w }
 

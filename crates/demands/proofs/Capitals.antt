@@ -33,10 +33,10 @@ use Rattle.listing.specs.Listing.{listing, listed, joined}
 use Rattle.table.specs.declared.Action.{Action}
 use Rattle.table.specs.declared.Action.TheVariants.{SayBack, CountPoints, ListPoints, ReadRun, AxisStatus, WritePoints, ClearRun, ChangeRun, ShowFlags, SetFlag}
 use Rattle.table.specs.declared.Message.{Message}
-use Rattle.table.specs.declared.Named.TheVariants.{Known, Unknown}
+use Rattle.std.specs.Prelude.{Some, None}
 use Rattle.table.specs.Table.{messages, named_in, message_numbered, message_of, any_bytes}
-use Rattle.messages.specs.declared.Asked.{Asked}
-use Rattle.messages.specs.declared.Asked.TheVariants.{Refused, Order}
+use Rattle.messages.specs.Asked.{Asked}
+use Rattle.messages.specs.Asked.{Refused, Order}
 use Rattle.messages.specs.Asked.{asked_of}
 use Rattle.messages.proofs.Judged.{told}
 use Rattle.messages.proofs.Shapes.{in_frame, Shape, shaped}
@@ -73,21 +73,21 @@ no_letters s e = go s (sym (length_capitals s) ∙ ap length e) e
     go (x ∷ y ∷ z ∷ w ∷ s) l e = absurd (omega arith)
 
 -- the row that is found has the ID that was looked for
-found_id : (id : ℕ) (ms : List Message) {m : Message} → named_in id ms ≡ Known m → id ≡ m.id
+found_id : (id : ℕ) (ms : List Message) {m : Message} → named_in id ms ≡ Some m → id ≡ m.id
 found_id id [] e = absurd (let z : ◌≡◌ {A = ℕ} 0 1 = cc in omega arith)
 found_id id (k ∷ ms) {m} e = go (eqb id k.id) refl (found_id id ms) e
   where
-    go : (b : Bool) → eqb id k.id ≡ b → (named_in id ms ≡ Known m → id ≡ m.id) → cond b (Known k) (named_in id ms) ≡ Known m → id ≡ m.id
+    go : (b : Bool) → eqb id k.id ≡ b → (named_in id ms ≡ Some m → id ≡ m.id) → cond b (Some k) (named_in id ms) ≡ Some m → id ≡ m.id
     go true q g f = let w : k ≡ m = cc in eqb-true _ _ q ∙ ap (λ (x : Message). x.id) w
     go false q g f = g f
 
 -- an ID that names a message is admitted, and is its number
-module _ (release : ℕ) (frame : List ℕ) {m : Message} (known : message_of release frame ≡ Known m) where
+module _ (release : ℕ) (frame : List ℕ) {m : Message} (known : message_of release frame ≡ Some m) where
   pub known_id : (admitted release (message_in frame) ≡ true) × (number_of (message_in frame) ≡ m.id)
   unfolding message_of message_numbered
   known_id = go (admitted release (message_in frame)) refl known
     where
-      go : (b : Bool) → admitted release (message_in frame) ≡ b → cond b (named_in (number_of (message_in frame)) messages) Unknown ≡ Known m
+      go : (b : Bool) → admitted release (message_in frame) ≡ b → cond b (named_in (number_of (message_in frame)) messages) None ≡ Some m
           → (admitted release (message_in frame) ≡ true) × (number_of (message_in frame) ≡ m.id)
       go true q f = (q, found_id (number_of (message_in frame)) messages f)
       go false q f = absurd (let z : ◌≡◌ {A = ℕ} 0 1 = cc in omega arith)

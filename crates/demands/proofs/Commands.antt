@@ -21,8 +21,8 @@ use Rattle.kinds.specs.Kinds.{points_tag, columns_tag, integers_tag, flags_tag}
 use Rattle.table.specs.declared.Follows.TheVariants.{Nothing, TenBytes, Points, RunBytes, ChangeType}
 use Rattle.table.specs.declared.Action.TheVariants.{SayBack, CountPoints, ListPoints, ReadRun, WritePoints, ClearRun, ChangeRun, ShowFlags, SetFlag}
 use Rattle.table.specs.declared.Message.{Message}
-use Rattle.table.specs.declared.Named.{Named}
-use Rattle.table.specs.declared.Named.TheVariants.{Known, Unknown}
+use Rattle.std.specs.Prelude.{Option}
+use Rattle.std.specs.Prelude.{Some, None}
 use Rattle.table.specs.Table.{row, message_numbered, message_of}
 use Rattle.messages.proofs.Shapes.{in_frame}
 use Rattle.calls.specs.Calls.{Sent}
@@ -220,22 +220,22 @@ abbrev pub setting : Message
 setting = row 0x24B 2 4 0 flags_tag ChangeType SetFlag false
 
 -- the table's row of an ID is the one that a frame's message with that ID is
-numbered : (s : Sent) {m : Message} → message_by s ≡ Known m → message_numbered m.id ≡ Known m
+numbered : (s : Sent) {m : Message} → message_by s ≡ Some m → message_numbered m.id ≡ Some m
 unfolding message_numbered
-numbered s e = in_frame (λ (m : Message). message_numbered m.id ≡ Known m) s.settings.release s.frame (refl, (refl, (refl, (refl, (refl, (refl, (refl, (refl, (refl, (refl, (refl, (refl, tt)))))))))))) e
+numbered s e = in_frame (λ (m : Message). message_numbered m.id ≡ Some m) s.settings.release s.frame (refl, (refl, (refl, (refl, (refl, (refl, (refl, (refl, (refl, (refl, (refl, (refl, tt)))))))))))) e
 
-pub row_of : (s : Sent) {m : Message} (id : ℕ) (r : Message) → message_by s ≡ Known m → m.id ≡ id → message_numbered id ≡ Known r → m ≡ r
-row_of s {m} id r e i n = let k : Known m ≡ Known r = sym (numbered s e) ∙ ap message_numbered i ∙ n in cc
+pub row_of : (s : Sent) {m : Message} (id : ℕ) (r : Message) → message_by s ≡ Some m → m.id ≡ id → message_numbered id ≡ Some r → m ≡ r
+row_of s {m} id r e i n = let k : Some m ≡ Some r = sym (numbered s e) ∙ ap message_numbered i ∙ n in cc
 
 -- 244H, 246H, 24EH, 24CH and 24BH are these
-pub rows : (message_numbered 0x244 ≡ Known writing) × (message_numbered 0x246 ≡ Known clearing) × (message_numbered 0x24E ≡ Known changing)
-    × (message_numbered 0x24C ≡ Known changing_integers) × (message_numbered 0x24B ≡ Known setting)
+pub rows : (message_numbered 0x244 ≡ Some writing) × (message_numbered 0x246 ≡ Some clearing) × (message_numbered 0x24E ≡ Some changing)
+    × (message_numbered 0x24C ≡ Some changing_integers) × (message_numbered 0x24B ≡ Some setting)
 unfolding message_numbered
 rows = (refl, refl, refl, refl, refl)
 
 -- the message that an ID names under a release
-abbrev pub message_named : ℕ → List ℕ → Named
-message_named release id = cond (admitted release id) (message_numbered (number_of id)) Unknown
+abbrev pub message_named : ℕ → List ℕ → Option Message
+message_named release id = cond (admitted release id) (message_numbered (number_of id)) None
 
 -- a frame's message is the one that its ID names
 pub message_of_lem : (release : ℕ) (frame id : List ℕ) → message_in frame ≡ id → message_of release frame ≡ message_named release id
@@ -244,7 +244,7 @@ message_of_lem release frame id e = rw e
 
 -- an ID names this message under every release
 abbrev pub Names : List ℕ → Message → Type 0
-Names id m = (release : ℕ) → message_named release id ≡ Known m
+Names id m = (release : ℕ) → message_named release id ≡ Some m
 
 -- 208H, 209H, 210H, 20EH, 20DH and 200H are known
 pub named : Names (text "208") counting × Names (text "209") listing × Names (text "210") reading × Names (text "20E") reading_integers

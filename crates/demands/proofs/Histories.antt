@@ -20,7 +20,8 @@ use Rattle.journal.proofs.Again.{good_others}
 use Rattle.journal.proofs.Back.{split_last}
 use Rattle.journal.proofs.Promised.{newest, last_added, others_added}
 use Rattle.frames.specs.Frame.{content_in}
-use Rattle.table.specs.declared.Named.{Named}
+use Rattle.std.specs.Prelude.{Option}
+use Rattle.table.specs.declared.Message.{Message}
 use Rattle.table.specs.Table.{rest_in}
 use Rattle.messages.specs.Asked.{asked_of}
 use Rattle.messages.proofs.Judged.{told}
@@ -157,7 +158,7 @@ module _ {held : Held} {size : ℕ} (b : Bounds held size) where
       let m = w.message in
       let content = content_in s.frame in
       let t = told held s.settings.fitted s.settings.release (message_by s) content m w.start w.count w.order in
-      ap (λ (n : Named). run_said held n content) t.message
+      ap (λ (n : Option Message). run_said held n content) t.message
       ∙ ap₂ (λ (x y : ℕ). entry_for m.tag x (new_bytes m.does (kind_of held m.tag).unit y (rest_in m content))) (sym t.start_is) (sym t.count_is)
 
   -- and its entry is that of what stood there
@@ -167,7 +168,7 @@ module _ {held : Held} {size : ℕ} (b : Bounds held size) where
       let m = w.message in
       let content = content_in s.frame in
       let t = told held s.settings.fitted s.settings.release (message_by s) content m w.start w.count w.order in
-      ap (λ (n : Named). entry_said held n content a) t.message
+      ap (λ (n : Option Message). entry_said held n content a) t.message
       ∙ ap₂ (λ (x y : ℕ). old_entry held m.tag x y a) (sym t.start_is) (sym t.count_is)
 
   -- a write on areas that hold the same leaves what the account says

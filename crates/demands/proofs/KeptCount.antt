@@ -18,11 +18,11 @@ use Rattle.journal.specs.Journal.{last_entry, puts}
 use Rattle.journal.proofs.Codec.{Bytes}
 use Rattle.journal.proofs.Back.{before, stands}
 use Rattle.table.specs.declared.Message.{Message}
-use Rattle.table.specs.declared.Named.{Named}
-use Rattle.table.specs.declared.Named.TheVariants.{Known, Unknown}
+use Rattle.std.specs.Prelude.{Option}
+use Rattle.std.specs.Prelude.{Some, None}
 use Rattle.table.specs.Table.{messages, message_numbered, message_of}
-use Rattle.messages.specs.declared.Asked.{Asked}
-use Rattle.messages.specs.declared.Asked.TheVariants.{Refused, Order}
+use Rattle.messages.specs.Asked.{Asked}
+use Rattle.messages.specs.Asked.{Refused, Order}
 use Rattle.messages.specs.Asked.{asked_of, number_given}
 use Rattle.messages.proofs.Judged.{told}
 use Rattle.messages.proofs.Shapes.{Each, in_frame}
@@ -98,9 +98,9 @@ each_write = (
 wrong_is : (c : Call) → wrong c ≡ wrong_at (id_named (message_by c.sent)) c.areas
 wrong_is c = go (message_by c.sent) refl
   where
-    go : (n : Named) → message_by c.sent ≡ n → miscounted n c.areas.points c.areas.kept.effective ≡ wrong_at (id_named n) c.areas
-    go Unknown e = refl
-    go (Known m) e = in_frame ById c.sent.settings.release c.sent.frame each_id e c.areas
+    go : (n : Option Message) → message_by c.sent ≡ n → miscounted n c.areas.points c.areas.kept.effective ≡ wrong_at (id_named n) c.areas
+    go None e = refl
+    go (Some m) e = in_frame ById c.sent.settings.release c.sent.frame each_id e c.areas
 
 eleven : (c : Call) → Eleven c (answer_of c)
 eleven c =
@@ -167,10 +167,10 @@ module _ (a : Areas) where
       ∙ sym (ap (λ (x : Outcome). effective_of x.areas) (accepted_back a z))
 
 -- accepted writes of points, and calls of any other ID
-of_row : {id : ℕ} (c : Call) (a : Accepted id c) (r : Message) → message_numbered id ≡ Known r → a.message ≡ r
+of_row : {id : ℕ} (c : Call) (a : Accepted id c) (r : Message) → message_numbered id ≡ Some r → a.message ≡ r
 of_row {id} c a r n = row_of c.sent id r a.known a.named n
 
-points_written : {id : ℕ} (c : Call) (a : Accepted id c) (r : Message) → message_numbered id ≡ Known r → writes r.does ≡ true → r.tag ≡ points_tag
+points_written : {id : ℕ} (c : Call) (a : Accepted id c) (r : Message) → message_numbered id ≡ Some r → writes r.does ≡ true → r.tag ≡ points_tag
     → CountTrue (answer_of c).areas
 points_written c a r n w t =
     let e = of_row c a r n in
@@ -181,7 +181,7 @@ others_given : (c : Call) → (id_named (message_by c.sent) ≡ 0x244 → ⊥) �
 others_given c w x = go (eqb (answer_of c).number 0) refl
   where
     -- an accepted message of another ID writes no points
-    stays : (m : Message) (k : message_by c.sent ≡ Known m) (t : Took m c) (b : Bool) → writes m.does ≡ b → SameCount c.areas (answer_of c).areas
+    stays : (m : Message) (k : message_by c.sent ≡ Some m) (t : Took m c) (b : Bool) → writes m.does ≡ b → SameCount c.areas (answer_of c).areas
     stays m k t true q =
         count_given m c t q
         (λ p.
@@ -216,14 +216,14 @@ module _ (c : Call) (points : List ℕ) (e : message_in c.sent.frame ≡ text "2
   lengths : lengths_of d.areas ≡ lengths_of c.areas
   lengths = λ i. record { points = same i; columns = length c.areas.columns; integers = length c.areas.integers; flags = length c.areas.flags; firsts = c.areas.firsts }
 
-  is_counting : message_of c.sent.settings.release c.sent.frame ≡ Known counting
+  is_counting : message_of c.sent.settings.release c.sent.frame ≡ Some counting
   is_counting = message_of_lem c.sent.settings.release c.sent.frame (text "208") e ∙ named.0 c.sent.settings.release
 
   same_wrong : wrong d ≡ wrong c
   same_wrong =
-      ap (λ (n : Named). miscounted n points c.areas.kept.effective) is_counting
+      ap (λ (n : Option Message). miscounted n points c.areas.kept.effective) is_counting
       ∙ ap (λ (n : ℕ). not (leb c.areas.kept.effective (n / 40))) same
-      ∙ sym (ap (λ (n : Named). miscounted n c.areas.points c.areas.kept.effective) is_counting)
+      ∙ sym (ap (λ (n : Option Message). miscounted n c.areas.points c.areas.kept.effective) is_counting)
 
   same_silent : silent_of d ≡ silent_of c
   same_silent =

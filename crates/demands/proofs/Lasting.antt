@@ -14,8 +14,8 @@ use Rattle.kinds.specs.Kinds.{kind_of, size_of, run_of}
 use Rattle.kinds.proofs.Known.{within}
 use Rattle.journal.specs.Journal.{Entry}
 use Rattle.table.specs.declared.Message.{Message}
-use Rattle.table.specs.declared.Named.{Named}
-use Rattle.table.specs.declared.Named.TheVariants.{Known}
+use Rattle.std.specs.Prelude.{Option}
+use Rattle.std.specs.Prelude.{Some}
 use Rattle.table.specs.Table.{start_in, count_in}
 use Rattle.messages.specs.Asked.{asked_of}
 use Rattle.messages.proofs.Judged.{told}
@@ -43,7 +43,7 @@ one_spared : {held : Held} {s : Sent} (w : Writes held s) (a : Areas) → Long h
 unfolding asked_of
 one_spared {held} {s} w a l tag number many =
     let t = told held s.settings.fitted s.settings.release (message_by s) (content s) w.message w.start w.count w.order in
-    λ f q. go (eqb w.message.tag tag) refl f t.start_is t.count_is (sym (ap (λ (n : Named). spares tag number many n (content s)) t.message) ∙ q)
+    λ f q. go (eqb w.message.tag tag) refl f t.start_is t.count_is (sym (ap (λ (n : Option Message). spares tag number many n (content s)) t.message) ∙ q)
   where
     m : Message
     m = w.message
@@ -92,7 +92,7 @@ module _ {held : Held} {size : ℕ} (b : Bounds held size) where
   took_parts [] later s t = (tt, t.0, t.1)
   took_parts (x ∷ earlier) later s t = let r = took_parts earlier later s t.1 in ((t.0, r.0), r.1, r.2)
 
-  module _ (p : Past) (v : Inv b p) (earlier later : List Sent) (s : Sent) (m : Message) (q : p.standing_writes ≡ earlier ++ (s ∷ later)) (known : message_by s ≡ Known m) where
+  module _ (p : Past) (v : Inv b p) (earlier later : List Sent) (s : Sent) (m : Message) (q : p.standing_writes ≡ earlier ++ (s ∷ later)) (known : message_by s ≡ Some m) where
     parts : AllTook b earlier × (takes held s ≡ true) × AllTook b later
     parts = took_parts earlier later s (subst (AllTook b) q v.took)
 
@@ -124,7 +124,7 @@ module _ {held : Held} {size : ℕ} (b : Bounds held size) where
         ∙ ap (λ (ws : List Sent). area_in m.tag (account held (fresh held size) ws)) q
         ∙ ap (area_in m.tag) (account_append held (fresh held size) earlier (s ∷ later)))
         ∙ spared m.tag number many f later parts.2 (put_in held its old) new_long u
-        ∙ ap (λ (y : Named). run_of k number many (area_in m.tag (put_in held (run_said held y (content s)) old))) known
+        ∙ ap (λ (y : Option Message). run_of k number many (area_in m.tag (put_in held (run_said held y (content s)) old))) known
         ∙ ap (run_of k number many) (put_own held (start_of m s) (count_of m s) (new_of held m s) old m.tag r.run.some r.run.held_all)
         ∙ put_in_lem k (start_of m s) (count_of m s) (new_of held m s) (area_in m.tag old) r.run.held_all (old_long m.tag) r.long number many l n
 

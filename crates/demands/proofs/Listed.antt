@@ -20,7 +20,7 @@ use Rattle.table.specs.declared.Follows.TheVariants.{Nothing, Points}
 use Rattle.table.specs.declared.Action.{Action}
 use Rattle.table.specs.declared.Action.TheVariants.{ListPoints, WritePoints, ClearRun}
 use Rattle.table.specs.declared.Message.{Message}
-use Rattle.table.specs.declared.Named.TheVariants.{Known}
+use Rattle.std.specs.Prelude.{Some}
 use Rattle.table.specs.Table.{row, start_in, count_in, patterns_fit}
 use Rattle.messages.proofs.Judged.{Right}
 use Rattle.messages.proofs.Capitals as capital
@@ -56,7 +56,7 @@ module _ (a : Areas) (o : Open a) where
   counted : CountTrue a → Says ours a (text "208") (text "208" ++ digits_of 3 (effective_of a))
   unfolding byte_of
   counted t =
-      says a (text "208") (text "208" ++ digits_of 3 (effective_of a)) counting o (was_not (true_fits (Known counting) a.points a.kept.effective t)) (omega arith) (omega arith) refl named.0
+      says a (text "208") (text "208" ++ digits_of 3 (effective_of a)) counting o (was_not (true_fits (Some counting) a.points a.kept.effective t)) (omega arith) (omega arith) refl named.0
       (λ fitted release. record { digits = refl; long = refl; program = refl; some = refl; held_all = refl; pattern = refl; type = refl })
       (λ x frame. ap (λ (n : ℕ). text "208" ++ digits_of 3 n) t)
 

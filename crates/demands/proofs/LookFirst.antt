@@ -12,16 +12,16 @@ use Rattle.kinds.proofs.Promised.{run}
 use Rattle.table.specs.declared.Action.{Action}
 use Rattle.table.specs.declared.Action.TheVariants.{SayBack, CountPoints, ListPoints, ReadRun, AxisStatus, WritePoints, ClearRun, ChangeRun, ShowFlags, SetFlag}
 use Rattle.table.specs.declared.Message.{Message}
-use Rattle.table.specs.declared.Named.TheVariants.{Known}
-use Rattle.messages.specs.declared.Asked.{Asked}
-use Rattle.messages.specs.declared.Asked.TheVariants.{Refused, Order}
+use Rattle.std.specs.Prelude.{Some}
+use Rattle.messages.specs.Asked.{Asked}
+use Rattle.messages.specs.Asked.{Refused, Order}
 use Rattle.messages.specs.declared.Shown.{Shown}
 use Rattle.messages.specs.Asked.{number_given}
 use Rattle.messages.specs.Shown.{names_run, shown_of}
 use Rattle.messages.proofs.Judged.{refused_from}
 use Rattle.messages.proofs.Promised.{judgement}
 use Rattle.messages.proofs.Shapes.{Shape, shaped}
-use Rattle.calls.specs.declared.Told.TheVariants.{Untested}
+use Rattle.std.specs.Prelude.{None}
 use Rattle.calls.specs.Calls.{Areas, Call, Outcome, area_in, written, sum_code}
 use Rattle.refusals.specs.Refusals.{too_short, area_rows, check_rows, late_rows, count_rows, check_early, late, check_silent_of}
 use Rattle.orders.specs.Orders.{writes}
@@ -74,7 +74,7 @@ number_done : (c : Call) (b : Bool) → too_short (length c.sent.reply) ≡ b �
 number_done c true e = ap (λ (o : Outcome). o.number) (short_act c e)
 number_done c false e = ap (λ (o : Outcome). o.number) (long_act c e) ∙ sym (number_shown (check_of c).asked)
 
-sum_done : (c : Call) (b : Bool) → too_short (length c.sent.reply) ≡ b → (act_of c).sum ≡ cond b Untested (check_of c).sum
+sum_done : (c : Call) (b : Bool) → too_short (length c.sent.reply) ≡ b → (act_of c).sum ≡ cond b None (check_of c).sum
 sum_done c true e = ap (λ (o : Outcome). o.sum) (short_act c e)
 sum_done c false e = ap (λ (o : Outcome). o.sum) (long_act c e)
 
@@ -131,7 +131,7 @@ module _ (c : Call) (m : Message) (t : Took m c) where
       )
 
   -- with the numbers that are shown
-  module _ (start count : ℕ) (known : message_by c.sent ≡ Known m) (s : start ≡ cond (names_run m) (start_of m c.sent) 0) (k : count ≡ cond (names_run m) (count_of m c.sent) 0) where
+  module _ (start count : ℕ) (known : message_by c.sent ≡ Some m) (s : start ≡ cond (names_run m) (start_of m c.sent) 0) (k : count ≡ cond (names_run m) (count_of m c.sent) 0) where
     wrote_shown : writes m.does ≡ true → Wrote start count
     wrote_shown w =
         let named = le-leb _ _ (names m.does m (shaped c.sent.settings.release c.sent.frame m known).shape w) in

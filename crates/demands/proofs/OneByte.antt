@@ -9,8 +9,9 @@ use Rattle.frames.specs.declared.checks.Sum.TheVariants.{True, Wrong}
 use Rattle.frames.specs.Frame.{shaped, says_number, sum_true, sum_said, station_passes}
 use Rattle.frames.proofs.Three.{said_true}
 use Rattle.messages.specs.Rows.{first_of}
-use Rattle.calls.specs.declared.Told.{Told}
-use Rattle.calls.specs.declared.Told.TheVariants.{Untested, Said}
+use Rattle.std.specs.Prelude.{Option}
+use Rattle.frames.specs.declared.checks.Sum.{Sum}
+use Rattle.std.specs.Prelude.{None, Some}
 use Rattle.calls.specs.Calls.{Call, Outcome, lengths_of, sum_code, unanswered}
 use Rattle.refusals.specs.Refusals.{early}
 use Rattle.refusals.proofs.Rows.{EarlyPassed, past_early, told_said}
@@ -35,13 +36,13 @@ module _ {r : ℕ} {c : Call} (p : Passes r c) where
     abbrev d : Call
     d = handed c.areas c.sent f'
 
-    unshaped : shaped f' ≡ false → answer_of d ≡ unanswered Untested 6 c.areas
+    unshaped : shaped f' ≡ false → answer_of d ≡ unanswered None 6 c.areas
     unshaped s = by_six d passed.reply_long passed.areas passed.axes_fit_lem passed.release_fits_lem s
 
-    by_seven : shaped f' ≡ true → sum_said c.sent.settings.release f' ≡ Wrong → answer_of d ≡ unanswered (Said Wrong) 7 c.areas
+    by_seven : shaped f' ≡ true → sum_said c.sent.settings.release f' ≡ Wrong → answer_of d ≡ unanswered (Some Wrong) 7 c.areas
     by_seven s w =
         silent_answer d 7 (sym (late_number_lem d none ∙ rw w)) (λ z. omega (arith, z))
-        ∙ ap (λ (t : Told). unanswered t 7 c.areas) (told_said c.sent.settings.release f' none ∙ ap Said w)
+        ∙ ap (λ (t : Option Sum). unanswered t 7 c.areas) (told_said c.sent.settings.release f' none ∙ ap Some w)
       where
         none : first_of (early d) ≡ 0
         none =
@@ -55,7 +56,7 @@ module _ {r : ℕ} {c : Call} (p : Passes r c) where
       caught : (OnlySize place c.sent.frame f' → sum_true r f' ≡ true → ⊥) → Caught ours c place f'
       caught again = go (misshapen place f') refl
         where
-          go : (b : Bool) → misshapen place f' ≡ b → answer_of d ≡ cond b (unanswered Untested 6 c.areas) (unanswered (Said Wrong) 7 c.areas)
+          go : (b : Bool) → misshapen place f' ≡ b → answer_of d ≡ cond b (unanswered None 6 c.areas) (unanswered (Some Wrong) 7 c.areas)
           go true m = unshaped (shape_is ch passed.shape ∙ ap not m)
           go false m =
               by_seven (shape_is ch passed.shape ∙ ap not m)
@@ -80,8 +81,8 @@ module _ {c : Call} (p : Passes 2 c) {place : ℕ} {f' : List ℕ} (ch : Changed
       t
 
   -- of which a true sum is told
-  told : (answer_of c).sum ≡ Said True
-  told = told_is c ∙ told_said c.sent.settings.release c.sent.frame p.to_six ∙ ap Said (is_true c.sent.frame p.true_sc)
+  told : (answer_of c).sum ≡ Some True
+  told = told_is c ∙ told_said c.sent.settings.release c.sent.frame p.to_six ∙ ap Some (is_true c.sent.frame p.true_sc)
 
   unnoticed : Unnoticed ours c f'
   unnoticed =

@@ -14,16 +14,18 @@ use Rattle.digits.proofs.Laid.{laid_nothing, laid_front}
 use Rattle.frames.specs.Frame.{content_in, shaped, error_of}
 use Rattle.frames.proofs.Closing.{length_reply}
 use Rattle.kinds.specs.declared.Held.{Held}
-use Rattle.table.specs.declared.Named.{Named}
-use Rattle.table.specs.declared.Named.TheVariants.{Known, Unknown}
-use Rattle.messages.specs.declared.Asked.{Asked}
-use Rattle.messages.specs.declared.Asked.TheVariants.{Refused, Order}
+use Rattle.std.specs.Prelude.{Option}
+use Rattle.table.specs.declared.Message.{Message}
+use Rattle.std.specs.Prelude.{Some, None}
+use Rattle.messages.specs.Asked.{Asked}
+use Rattle.messages.specs.Asked.{Refused, Order}
 use Rattle.messages.specs.Rows.{Row, first_of}
 use Rattle.table.specs.Table.{message_of}
 use Rattle.messages.specs.Asked.{asked_rows, number_given}
 use Rattle.messages.proofs.Judged.{asked_from}
-use Rattle.calls.specs.declared.Told.{Told}
-use Rattle.calls.specs.declared.Told.TheVariants.{Untested}
+use Rattle.std.specs.Prelude.{Option}
+use Rattle.frames.specs.declared.checks.Sum.{Sum}
+use Rattle.std.specs.Prelude.{None}
 use Rattle.calls.specs.Calls.{Areas, Call, Outcome, lengths_of, unanswered}
 use Rattle.refusals.specs.Refusals.{axes_fit, release_fits, area_rows, check_rows, late_rows, count_rows, early, silent, silent_of, told_of, refusal_of, back_rows, back_refusal_of}
 use Rattle.link.specs.Answer.{held, asked, areas_after, text_of, answer_of}
@@ -48,12 +50,12 @@ told_is c = answer_either c (λ (o : Outcome). o.sum ≡ told_of c) (λ _. refl)
 -- what passes the tests before 6 and isn't shaped is refused by 6, with the sum untested
 pub by_six : (c : Call) → ltb (length c.sent.reply) 1024 ≡ false → AreasPass (lengths_of c.areas) c.areas.journal c.areas.kept
     → axes_fit c.sent.axes c.sent.settings.fitted ≡ true → release_fits c.sent.settings.release ≡ true → shaped c.sent.frame ≡ false
-    → answer_of c ≡ unanswered Untested 6 c.areas
+    → answer_of c ≡ unanswered None 6 c.areas
 by_six c reply areas axes release shape =
     let l = lengths_of c.areas in
     let early = early_rows (length c.sent.reply) c.sent.frame c.sent.axes c.sent.settings l c.areas.journal c.areas.kept ∙ six 0 in
     silent_answer c 6 (sym (silent_is c ∙ six (late_number c.sent.settings c.sent.frame c.areas.points c.areas.kept 0))) (λ z. omega (arith, z))
-    ∙ ap (λ (t : Told). unanswered t 6 c.areas) (told_untested c.sent.settings.release c.sent.frame (λ z. let n : ◌≡◌ {A = ℕ} 6 0 = sym early ∙ z in omega (arith, n)))
+    ∙ ap (λ (t : Option Sum). unanswered t 6 c.areas) (told_untested c.sent.settings.release c.sent.frame (λ z. let n : ◌≡◌ {A = ℕ} 6 0 = sym early ∙ z in omega (arith, n)))
   where
     -- whatever comes behind
     six : (k : ℕ) → early_number (length c.sent.reply) c.sent.frame c.sent.axes c.sent.settings (lengths_of c.areas) c.areas.journal c.areas.kept k ≡ 6
@@ -184,11 +186,11 @@ silent_listed : (c : Call) → Listed frame_numbers (silent_of c)
 unfolding silent_of check_rows area_rows late_rows count_rows
 silent_listed c = number_given_lem (Listed frame_numbers) (silent c) refl (refl, (refl, (refl, (refl, (refl, (refl, (refl, (refl, (refl, (refl, (refl, (refl, tt))))))))))))
 
-asked_listed : (held : Held) (fitted release : ℕ) (n : Named) (content : List ℕ) → Listed frame_numbers (first_of (asked_rows held fitted release n content))
+asked_listed : (held : Held) (fitted release : ℕ) (n : Option Message) (content : List ℕ) → Listed frame_numbers (first_of (asked_rows held fitted release n content))
 unfolding asked_rows
-asked_listed held fitted release Unknown content = refl
-asked_listed held fitted release (Known m) content =
-    number_given_lem (Listed frame_numbers) (asked_rows held fitted release (Known m) content) refl (refl, (refl, (refl, (refl, (refl, (refl, (refl, tt)))))))
+asked_listed held fitted release None content = refl
+asked_listed held fitted release (Some m) content =
+    number_given_lem (Listed frame_numbers) (asked_rows held fitted release (Some m) content) refl (refl, (refl, (refl, (refl, (refl, (refl, (refl, tt)))))))
 
 back_listed : (a : Areas) → Listed back_numbers (back_refusal_of a)
 unfolding back_refusal_of back_rows area_rows

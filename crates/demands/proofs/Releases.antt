@@ -26,15 +26,15 @@ use Rattle.points.proofs.Capitals.{same_slots}
 use Rattle.table.specs.declared.Action.{Action}
 use Rattle.table.specs.declared.Action.TheVariants.{SayBack, CountPoints, ListPoints, ReadRun, AxisStatus, WritePoints, ClearRun, ChangeRun, ShowFlags, SetFlag}
 use Rattle.table.specs.declared.Message.{Message}
-use Rattle.table.specs.declared.Named.{Named}
-use Rattle.table.specs.declared.Named.TheVariants.{Known, Unknown}
+use Rattle.std.specs.Prelude.{Option}
+use Rattle.std.specs.Prelude.{Some, None}
 use Rattle.table.specs.Table.{message_numbered, message_of, rest_in, any_bytes}
-use Rattle.messages.specs.declared.Asked.{Asked}
-use Rattle.messages.specs.declared.Asked.TheVariants.{Order}
+use Rattle.messages.specs.Asked.{Asked}
+use Rattle.messages.specs.Asked.{Order}
 use Rattle.messages.specs.Asked.{not_digits, asked_of, judged, number_given}
 use Rattle.messages.proofs.Judged.{Right, told, ordered, as_admitted}
 use Rattle.messages.proofs.Capitals.{same_rest, same_judged}
-use Rattle.calls.specs.declared.Told.TheVariants.{Said}
+use Rattle.std.specs.Prelude.{Some}
 use Rattle.calls.specs.Calls.{Areas, Sent, Call, Outcome, lengths_of}
 use Rattle.refusals.specs.Refusals.{release_fits, miscounted, silent_of, told_of}
 use Rattle.refusals.proofs.Rows.{silent_is, past_silent, call_passed, heard_told}
@@ -102,14 +102,14 @@ capitals_only c n =
       sc = sc_plain f p.sum;
     }
   where
-    content_plain : (m : Message) → message_of 1 c.sent.frame ≡ Known m → not_digits 1 m (content_in c.sent.frame) ≡ false → 10 ≤ length c.sent.frame
+    content_plain : (m : Message) → message_of 1 c.sent.frame ≡ Some m → not_digits 1 m (content_in c.sent.frame) ≡ false → 10 ≤ length c.sent.frame
         → (message_in c.sent.frame ≡ text "200" → ⊥) → (b : Bool) → any_bytes m.follows ≡ b → capitals (content_in c.sent.frame) ≡ content_in c.sent.frame
     content_plain m k d l other true e = absurd (other (id_200 1 c.sent.frame k (omega arith) e))
     content_plain m k d l other false e =
         (rules (content_in c.sent.frame)).capitals_only (as_admitted 1 m (content_in c.sent.frame) e d)
 
 -- what release 1 admits of a message, release 2 admits
-message_more : (frame : List ℕ) {m : Message} → message_of 1 frame ≡ Known m → message_of 2 frame ≡ Known m
+message_more : (frame : List ℕ) {m : Message} → message_of 1 frame ≡ Some m → message_of 2 frame ≡ Some m
 unfolding message_of
 message_more frame k =
     let a = (known_id 1 frame k).0 in
@@ -164,11 +164,11 @@ module _ (c : Call) (n : (answer_of (under 1 c)).number ≡ 0) where
         allowed = ap (λ (s : Sum). is_off s && not c.sent.settings.unchecked) (said_more frame p.sum) ∙ p.allowed;
         sum = ap is_wrong (said_more frame p.sum) ∙ p.sum;
         station = says_more (station_in frame) c.sent.settings.station p.station;
-        count = ap (λ (x : Named). miscounted x c.areas.points c.areas.kept.effective) (message_more frame own_message ∙ sym own_message) ∙ p.count;
+        count = ap (λ (x : Option Message). miscounted x c.areas.points c.areas.kept.effective) (message_more frame own_message ∙ sym own_message) ∙ p.count;
       })
       0
     where
-      own_message : message_of 1 frame ≡ Known (accepted one n).message
+      own_message : message_of 1 frame ≡ Some (accepted one n).message
       own_message =
           let a = accepted one n in
           ordered_message one (record { message = a.message; start = a.start; count = a.count; held = held one })
@@ -182,15 +182,15 @@ module _ (c : Call) (n : (answer_of (under 1 c)).number ≡ 0) where
       let fitted = c.sent.settings.fitted in
       let s = content_in frame in
       let t = told h fitted 1 (message_of 1 frame) s a.message a.start a.count a.order in
-      ap (λ (x : Named). judged h fitted 2 x s) (message_more frame t.message)
+      ap (λ (x : Option Message). judged h fitted 2 x s) (message_more frame t.message)
       ∙ ordered h fitted 2 a.message s (right_more h fitted a.message s t.rows)
       ∙ sym (ordered h fitted 1 a.message s t.rows)
-      ∙ ap (λ (x : Named). judged h fitted 1 x s) (sym t.message)
+      ∙ ap (λ (x : Option Message). judged h fitted 1 x s) (sym t.message)
 
   same_told : told_of two ≡ told_of one
   same_told =
       let z = (accepted one n).heard in
-      heard_told two heard_too ∙ ap Said (said_more frame (call_passed one z).sum) ∙ sym (heard_told one z)
+      heard_told two heard_too ∙ ap Some (said_more frame (call_passed one z).sum) ∙ sym (heard_told one z)
 
   same_answer_there : answer_of two ≡ answer_of one
   same_answer_there =
@@ -246,7 +246,7 @@ other_capitals said other e = other (no_letters (take 3 said) (sym (take_capital
 
 -- an ID in capitals names the same
 same_named : (id : List ℕ) → message_named 2 (capitals id) ≡ message_named 2 id
-same_named id = ap₂ (λ (b : Bool) (n : ℕ). cond b (message_numbered n) Unknown) ((rules id).either 2) (rules id).same_number
+same_named id = ap₂ (λ (b : Bool) (n : ℕ). cond b (message_numbered n) None) ((rules id).either 2) (rules id).same_number
 
 -- what is stored of a text, and of its capitals
 same_new : (does : Action) (unit count : ℕ) (rest : List ℕ) → new_bytes does unit count (capitals rest) ≡ new_bytes does unit count rest
@@ -362,7 +362,7 @@ module _ (a : Areas) (h : Sent) (e : h.settings.release ≡ 2) (checked : Bool) 
     id_capitals = is_message X Y (capitals said) (sc_of_lem (capitals said)) (long_sc (capitals said)) long_capitals ∙ take_capitals 3 said
 
     -- both name the same
-    abbrev own_name : Named
+    abbrev own_name : Option Message
     own_name = message_named h.settings.release (take 3 said)
 
     named_as_is : message_of h.settings.release as_is ≡ own_name
@@ -379,9 +379,9 @@ module _ (a : Areas) (h : Sent) (e : h.settings.release ≡ 2) (checked : Bool) 
         let r = h.settings.release in
         let H = held_in (lengths_of a) in
         let F = h.settings.fitted in
-        ap₂ (λ (k : Named) (t : List ℕ). judged H F r k t) named_as_is body
+        ap₂ (λ (k : Option Message) (t : List ℕ). judged H F r k t) named_as_is body
         ∙ sym (at_two e (λ (k : ℕ). judged H F k own_name (capitals (drop 3 said)) ≡ judged H F k own_name (drop 3 said)) (same_judged H F own_name (drop 3 said)))
-        ∙ sym (ap₂ (λ (k : Named) (t : List ℕ). judged H F r k t) named_capitals body_capitals)
+        ∙ sym (ap₂ (λ (k : Option Message) (t : List ℕ). judged H F r k t) named_capitals body_capitals)
 
     rest_capitals : (m : Message) → rest (handed a h as_capitals).sent m ≡ capitals (rest (handed a h as_is).sent m)
     rest_capitals m = ap (rest_in m) body_capitals ∙ same_rest m (drop 3 said) ∙ ap (λ (t : List ℕ). capitals (rest_in m t)) (sym body)

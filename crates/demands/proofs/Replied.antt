@@ -10,9 +10,9 @@ use Rattle.digits.specs.Text.{text}
 use Rattle.frames.specs.Frame.{normal, three_of, content_in, reply_of}
 use Rattle.frames.proofs.Promised.{reply}
 use Rattle.table.specs.declared.Message.{Message}
-use Rattle.table.specs.declared.Named.TheVariants.{Known}
-use Rattle.messages.specs.declared.Asked.{Asked}
-use Rattle.messages.specs.declared.Asked.TheVariants.{Refused, Order}
+use Rattle.std.specs.Prelude.{Some}
+use Rattle.messages.specs.Asked.{Asked}
+use Rattle.messages.specs.Asked.{Refused, Order}
 use Rattle.demands.specs.History.{message_by}
 use Rattle.messages.specs.Asked.{asked_of, number_given}
 use Rattle.messages.proofs.Judged.{refused_some, told}
@@ -52,7 +52,7 @@ normal_reply =
       starts = λ c n. let f = normal_framed c n in ap (λ (t : List ℕ). get_or t 0 0) f.is ∙ f.law.starts;
     }
 
-test_row : (c : Call) (m : Message) (start count : ℕ) → message_by c.sent ≡ Known testing → asked c ≡ Order m start count → testing ≡ m
+test_row : (c : Call) (m : Message) (start count : ℕ) → message_by c.sent ≡ Some testing → asked c ≡ Order m start count → testing ≡ m
 unfolding asked_of
 test_row c m start count e q =
     let t = (told (held c) c.sent.settings.fitted c.sent.settings.release (message_by c.sent) (content_in c.sent.frame) m start count q).message in

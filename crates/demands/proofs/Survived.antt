@@ -17,7 +17,7 @@ use Rattle.table.specs.declared.Follows.TheVariants.{Nothing, Points}
 use Rattle.table.specs.declared.Action.{Action}
 use Rattle.table.specs.declared.Action.TheVariants.{WritePoints, ClearRun}
 use Rattle.table.specs.declared.Message.{Message}
-use Rattle.table.specs.declared.Named.TheVariants.{Known}
+use Rattle.std.specs.Prelude.{Some}
 use Rattle.table.specs.Table.{row}
 use Rattle.calls.specs.Calls.{Areas, Sent, Call, lengths_of}
 use Rattle.orders.specs.Orders.{rest, writes, new_bytes}
@@ -46,7 +46,7 @@ use Rattle.demands.proofs.Histories.{first, every}
 use Rattle.demands.proofs.Lasting.{standing_past}
 
 -- what is read of a write that stands, whichever of the five it is
-reads : {h : Held} {a : Areas} {m : Message} {s : Sent} {later : List Sent} → h.points ≤ 1500 → message_by s ≡ Known m → Standing h a m s later
+reads : {h : Held} {a : Areas} {m : Message} {s : Sent} {later : List Sent} → h.points ≤ 1500 → message_by s ≡ Some m → Standing h a m s later
     → Reads ours a m s later
 reads {h} {a} {m} {s} {later} sound known t =
     record {

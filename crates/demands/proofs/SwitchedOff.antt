@@ -16,11 +16,12 @@ use Rattle.frames.proofs.Bools.{and_false}
 use Rattle.frames.proofs.Three.{neither, said_off, one_of_three}
 use Rattle.messages.specs.Rows.{first_of}
 use Rattle.kinds.specs.declared.Held.{Held}
-use Rattle.table.specs.declared.Named.{Named}
-use Rattle.table.specs.declared.Named.TheVariants.{Known, Unknown}
+use Rattle.std.specs.Prelude.{Option}
+use Rattle.table.specs.declared.Message.{Message}
+use Rattle.std.specs.Prelude.{Some, None}
 use Rattle.messages.specs.Asked.{asked_rows, number_given}
-use Rattle.calls.specs.declared.Told.{Told}
-use Rattle.calls.specs.declared.Told.TheVariants.{Untested, Said}
+use Rattle.std.specs.Prelude.{Option}
+use Rattle.std.specs.Prelude.{None, Some}
 use Rattle.calls.specs.Calls.{Call, Outcome, lengths_of, unanswered}
 use Rattle.refusals.specs.Refusals.{area_rows, check_rows, late_rows, count_rows, early, silent_of, told_of}
 use Rattle.refusals.specs.Refusals.{late as lates}
@@ -67,12 +68,12 @@ count_other c n zero eleven = go (wrong c)
     go true e = eleven e
     go false e = zero e
 
-untested_not : {s : Sum} → Untested ≡ Said s → ⊥
+untested_not : {s : Sum} → None ≡ Some s → ⊥
 untested_not {s} e = let z : ◌≡◌ {A = ℕ} 0 1 = ap tag e in omega (arith, z)
   where
-    tag : Told → ℕ
-    tag Untested = 0
-    tag (Said s) = 1
+    tag : Option Sum → ℕ
+    tag None = 0
+    tag (Some s) = 1
 
 -- a call's tests before the sum, with what comes behind them
 abbrev early_of : Call → ℕ → ℕ
@@ -230,7 +231,7 @@ others_same c n = go (eqb (silent_of off) 0) refl
     go false e =
         let z = eqb-false _ _ e in
         silent_answer off (silent_of off) refl z
-        ∙ ap (λ (t : Told). unanswered t (silent_of off) c.areas) told
+        ∙ ap (λ (t : Option Sum). unanswered t (silent_of off) c.areas) told
         ∙ sym (silent_answer on (silent_of off) same z)
 
 -- the numbers of the tests before the sum, and of those from it on
@@ -240,11 +241,11 @@ early_listed c =
     number_given_lem (λ (k : ℕ). (k ≡ 0 → ⊥) → among k early_numbers ≡ true) (early c) (λ n. absurd (n refl))
     (λ _. refl, (λ _. refl, (λ _. refl, (λ _. refl, (λ _. refl, (λ _. refl, (λ _. refl, (λ _. refl, tt))))))))
 
-asked_late : (held : Held) (fitted release : ℕ) (n : Named) (content : List ℕ) → among (first_of (asked_rows held fitted release n content)) early_numbers ≡ false
+asked_late : (held : Held) (fitted release : ℕ) (n : Option Message) (content : List ℕ) → among (first_of (asked_rows held fitted release n content)) early_numbers ≡ false
 unfolding asked_rows
-asked_late held fitted release Unknown content = refl
-asked_late held fitted release (Known m) content =
-    number_given_lem (λ (k : ℕ). among k early_numbers ≡ false) (asked_rows held fitted release (Known m) content) refl (refl, (refl, (refl, (refl, (refl, (refl, (refl, tt)))))))
+asked_late held fitted release None content = refl
+asked_late held fitted release (Some m) content =
+    number_given_lem (λ (k : ℕ). among k early_numbers ≡ false) (asked_rows held fitted release (Some m) content) refl (refl, (refl, (refl, (refl, (refl, (refl, (refl, tt)))))))
 
 late_listed : (c : Call) → first_of (early c) ≡ 0 → among (answer_of c).number early_numbers ≡ false
 unfolding late_rows count_rows
@@ -271,9 +272,9 @@ was_tested c f = go (eqb (first_of (early c)) 0) refl
     go false e = absurd (true≢false (sym (early_some c (eqb-false _ _ e)) ∙ f))
 
 -- what is told is one of three
-abbrev said_in : Told → Sum
-said_in Untested = True
-said_in (Said s) = s
+abbrev said_in : Option Sum → Sum
+said_in None = True
+said_in (Some s) = s
 
 module _ (c : Call) where
   abbrev said : Sum
@@ -285,11 +286,11 @@ module _ (c : Call) where
   abbrev to_us : Bool
   to_us = station_passes c.sent.settings.release c.sent.settings.station c.sent.frame
 
-  tested : first_of (early c) ≡ 0 → (answer_of c).sum ≡ Said said
+  tested : first_of (early c) ≡ 0 → (answer_of c).sum ≡ Some said
   tested e = told_is c ∙ told_said c.sent.settings.release c.sent.frame e
 
   -- where it is told, it was tested
-  told_tested : (s : Sum) → (answer_of c).sum ≡ Said s → (first_of (early c) ≡ 0) × (said ≡ s)
+  told_tested : (s : Sum) → (answer_of c).sum ≡ Some s → (first_of (early c) ≡ 0) × (said ≡ s)
   told_tested s e = go (eqb (first_of (early c)) 0) refl
     where
       go : (b : Bool) → eqb (first_of (early c)) 0 ≡ b → (first_of (early c) ≡ 0) × (said ≡ s)
@@ -306,16 +307,16 @@ module _ (c : Call) where
         used_off = λ f.
             let o = one_of_three c.sent.settings.release c.sent.frame in
             let z = was_tested c f in
-            (λ e. o.off.0 (o.says_off.0 (ap said_in (sym (tested z) ∙ e))), λ q. tested z ∙ ap Said (o.says_off.1 (o.off.1 q)));
+            (λ e. o.off.0 (o.says_off.0 (ap said_in (sym (tested z) ∙ e))), λ q. tested z ∙ ap Some (o.says_off.1 (o.off.1 q)));
         seven = (
-          λ e. let z = was_tested c (rw e) in tested z ∙ ap Said (is_seven said unchecked to_us (counting c) (count_other c 7 (λ z. omega (arith, z)) (λ z. omega (arith, z))) (sym (late_number_lem c z) ∙ silent_of_lem c 7 (omega arith) (omega arith) e)),
+          λ e. let z = was_tested c (rw e) in tested z ∙ ap Some (is_seven said unchecked to_us (counting c) (count_other c 7 (λ z. omega (arith, z)) (λ z. omega (arith, z))) (sym (late_number_lem c z) ∙ silent_of_lem c 7 (omega arith) (omega arith) e)),
           λ e. let t = told_tested Wrong e in number_of_lem c 7 (omega arith) (late_number_lem c t.0 ∙ rw t.1),
         );
         twelve = (
           λ e.
               let z = was_tested c (rw e) in
               let t = is_twelve said unchecked to_us (counting c) (count_other c 12 (λ z. omega (arith, z)) (λ z. omega (arith, z))) (sym (late_number_lem c z) ∙ silent_of_lem c 12 (omega arith) (omega arith) e) in
-              (tested z ∙ ap Said t.0, t.1),
+              (tested z ∙ ap Some t.0, t.1),
           λ e. let t = told_tested SwitchedOff e.0 in number_of_lem c 12 (omega arith) (late_number_lem c t.0 ∙ rw (t.1, e.1)),
         );
       }

@@ -19,7 +19,8 @@ use Rattle.finder.specs.Laws.{Head, last_two, Quiet}
 use Rattle.finder.proofs.Promised.{test_call_rule, found_as_before}
 use Rattle.kinds.specs.declared.Held.{Held}
 use Rattle.kinds.specs.Kinds.{held_in}
-use Rattle.table.specs.declared.Named.{Named}
+use Rattle.std.specs.Prelude.{Option}
+use Rattle.table.specs.declared.Message.{Message}
 use Rattle.messages.specs.Asked.{asked_of, judged, number_given}
 use Rattle.messages.proofs.Judged.{Right, ordered}
 use Rattle.calls.specs.Calls.{Areas, Sent, Call, Outcome, lengths_of}
@@ -163,7 +164,7 @@ module _ (c : Call) (e : message_in c.sent.frame ≡ text "200") where
       let t : length (content_in f) ≡ 10 = length-take-le (length f - 10) (drop 6 f) (simp length-drop (omega arith)) ∙ omega arith in
       let s = c.sent.settings in
       let m = message_of_lem s.release f (text "200") e ∙ named.5 s.release in
-      ap (λ (x : Named). number_given (judged (held c) s.fitted s.release x (content_in f))) m
+      ap (λ (x : Option Message). number_given (judged (held c) s.fitted s.release x (content_in f))) m
       ∙ ap number_given (ordered (held c) s.fitted s.release testing (content_in f) (right_ten (held c) s.fitted s.release (content_in f) t))
 
 no_error_reply : NoErrorReply ours

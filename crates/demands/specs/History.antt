@@ -7,8 +7,9 @@ use Rattle.kinds.specs.Kinds.{kind_of, held_in, Sound}
 use Rattle.frames.specs.Frame.{content_in}
 use Rattle.journal.specs.Journal.{Entry, encodes, added, area_of, others, entry_for}
 use Rattle.points.specs.Point.{effective_in}
-use Rattle.table.specs.declared.Named.{Named}
-use Rattle.table.specs.declared.Named.TheVariants.{Known, Unknown}
+use Rattle.std.specs.Prelude.{Option}
+use Rattle.table.specs.declared.Message.{Message}
+use Rattle.std.specs.Prelude.{Some, None}
 use Rattle.table.specs.Table.{message_of, start_in, count_in, rest_in}
 use Rattle.calls.specs.Calls.{Areas, Sent, Call, Outcome, fresh, lengths_of, area_in, put_in, entries_of, old_entry}
 use Rattle.refusals.specs.Refusals.{least_journal, refusal_of}
@@ -58,20 +59,20 @@ abbrev pub CountTrue : Areas → Type 0
 CountTrue a = a.kept.effective ≡ effective_of a
 
 -- the message that a frame names, under the release that it is sent with (02, l)
-abbrev pub message_by : Sent → Named
+abbrev pub message_by : Sent → Option Message
 message_by s = message_of s.settings.release s.frame
 
 -- the run that a message with its content says, whatever a board makes of it, in the shape of an entry: its kind's tag, its start number and the
 -- bytes to store ("Each message"; 02, a: the slots of its points, zero bytes, a byte for each pair of digits, a flag's byte); an unknown one says none
-abbrev pub run_said : Held → Named → List ℕ → Entry
-run_said held Unknown content = entry_for 0 0 []
-run_said held (Known m) content =
+abbrev pub run_said : Held → Option Message → List ℕ → Entry
+run_said held None content = entry_for 0 0 []
+run_said held (Some m) content =
     entry_for m.tag (start_in m content) (new_bytes m.does (kind_of held m.tag).unit (count_in m content) (rest_in m content))
 
 -- and the entry that it makes over areas: "the old bytes of what was named" ("Journal")
-abbrev pub entry_said : Held → Named → List ℕ → Areas → Entry
-entry_said held Unknown content a = entry_for 0 0 []
-entry_said held (Known m) content a = old_entry held m.tag (start_in m content) (count_in m content) a
+abbrev pub entry_said : Held → Option Message → List ℕ → Areas → Entry
+entry_said held None content a = entry_for 0 0 []
+entry_said held (Some m) content a = old_entry held m.tag (start_in m content) (count_in m content) a
 
 -- an account of writes that no board gives: the runs that they say, whole, put into areas one after the other, and the entries that they make
 abbrev pub stored : Held → Areas → Sent → Areas

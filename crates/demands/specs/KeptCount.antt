@@ -4,8 +4,9 @@ use Rattle.digits.specs.Digits.{digits_of}
 use Rattle.digits.specs.Text.{text}
 use Rattle.frames.specs.Frame.{normal, message_in, reply_of}
 use Rattle.kinds.specs.Kinds.{held_in}
-use Rattle.table.specs.declared.Named.{Named}
-use Rattle.table.specs.declared.Named.TheVariants.{Known, Unknown}
+use Rattle.std.specs.Prelude.{Option}
+use Rattle.table.specs.declared.Message.{Message}
+use Rattle.std.specs.Prelude.{Some, None}
 use Rattle.messages.specs.Rows.{first_of}
 use Rattle.calls.specs.Calls.{Areas, Call, Outcome, areas_of, call_of, lengths_of}
 use Rattle.refusals.specs.Refusals.{area_rows, late_rows, early}
@@ -23,9 +24,9 @@ wrong_at id a =
     (cond (eqb id 0x244 || eqb id 0x246) (not (eqb a.kept.effective (effective_of a))) false)
 
 -- the ID of a frame, whatever its content; 0 where its message is unknown
-abbrev pub id_named : Named → ℕ
-id_named Unknown = 0
-id_named (Known m) = m.id
+abbrev pub id_named : Option Message → ℕ
+id_named None = 0
+id_named (Some m) = m.id
 
 -- what is tested of a frame up to 8, and of a step back up to 4
 abbrev pub to_eight : Call → ℕ

@@ -3,11 +3,12 @@ use Rattle.std.specs.Prelude.{ℕ, ◌≤◌, ◌≡◌, true, false, cond, List
 use Rattle.kinds.specs.declared.Kind.{Kind}
 use Rattle.kinds.specs.Kinds.{kind_of, run_of}
 use Rattle.table.specs.declared.Message.{Message}
-use Rattle.table.specs.declared.Named.TheVariants.{Known}
+use Rattle.std.specs.Prelude.{Some}
 use Rattle.messages.specs.declared.Shown.{Shown}
 use Rattle.messages.specs.Shown.{names_run}
-use Rattle.calls.specs.declared.Told.{Told}
-use Rattle.calls.specs.declared.Told.TheVariants.{Untested}
+use Rattle.std.specs.Prelude.{Option}
+use Rattle.frames.specs.declared.checks.Sum.{Sum}
+use Rattle.std.specs.Prelude.{None}
 use Rattle.calls.specs.Calls.{Areas, Call, Outcome, call_of, area_in, written}
 use Rattle.refusals.specs.Refusals.{too_short}
 use Rattle.orders.specs.Orders.{rest, writes, new_bytes}
@@ -23,7 +24,7 @@ use Rattle.demands.specs.Survive.{Outside}
 -- what a check tells the panel: what is shown, and what the sum test said
 pub record Look : Type 0 where
   pub shown : Shown
-  pub sum : Told
+  pub sum : Option Sum
 
 -- what a board does for a panel: a check, to which everything is lent to be only read, an act, and "the old single call"
 pub record Panel : Type 0 where
@@ -45,7 +46,7 @@ pub record Halves (c : Call) (k : Look) (o : Outcome) : Type 0 where
   pub never_one : k.shown.number ≡ 1 → ⊥
   -- acting gives 1 where the reply area is too short, else the check's number, and tells the same of the sum
   pub number : o.number ≡ cond (too_short (length c.sent.reply)) 1 k.shown.number
-  pub sum : o.sum ≡ cond (too_short (length c.sent.reply)) Untested k.sum
+  pub sum : o.sum ≡ cond (too_short (length c.sent.reply)) None k.sum
   -- of a refused frame no message and no run is shown, and an act that is refused, by 1 too, changes nothing
   pub nothing_shown : (k.shown.number ≡ 0 → ⊥) → (k.shown.message ≡ 0) × (k.shown.start ≡ 0) × (k.shown.count ≡ 0)
   pub nothing_done : (o.number ≡ 0 → ⊥) → o.areas ≡ c.areas
@@ -62,7 +63,7 @@ pub record ShownIsDone (c : Call) (w : Shown) (after : Areas) : Type 0 where
   -- the message whose ID is shown is the frame's own; start and count are as the frame says, or 0 where the message names no run
   pub message : Message
   pub id : w.message ≡ message.id
-  pub named : message_by c.sent ≡ Known message
+  pub named : message_by c.sent ≡ Some message
   pub start : w.start ≡ cond (names_run message) (start_of message c.sent) 0
   pub count : w.count ≡ cond (names_run message) (count_of message c.sent) 0
   -- one that is shown as a query changes nothing

@@ -5,7 +5,7 @@ use Rattle.digits.specs.Digits.{capital}
 use Rattle.frames.specs.declared.checks.Sum.TheVariants.{Wrong}
 use Rattle.frames.specs.Frame.{test_call_fits, sum_true}
 use Rattle.messages.specs.Rows.{first_of}
-use Rattle.calls.specs.declared.Told.TheVariants.{Untested, Said}
+use Rattle.std.specs.Prelude.{None, Some}
 use Rattle.calls.specs.Calls.{Call, Outcome, unanswered}
 use Rattle.refusals.specs.Refusals.{early}
 use Rattle.demands.specs.History.{Conduct}
@@ -36,7 +36,7 @@ misshapen place frame' =
 -- "the changed frame is refused by 6 or 7": by 6, the sum untested, where it is misshapen, else by 7; nothing is changed and nothing is replied
 abbrev pub Caught : Conduct → Call → ℕ → List ℕ → Type 0
 Caught board c place frame' =
-    to_changed board c frame' ≡ cond (misshapen place frame') (unanswered Untested 6 c.areas) (unanswered (Said Wrong) 7 c.areas)
+    to_changed board c frame' ≡ cond (misshapen place frame') (unanswered None 6 c.areas) (unanswered (Some Wrong) 7 c.areas)
 
 -- so it is "under the release 1 rule"
 abbrev pub CaughtUnderOne : Conduct → Type 0

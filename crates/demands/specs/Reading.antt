@@ -10,8 +10,8 @@ use Rattle.pairs.specs.Pairs.{digits_in}
 use Rattle.flags.specs.Flags.{eights, bit_at}
 use Rattle.points.specs.Point.{length_of}
 use Rattle.table.specs.declared.Message.{Message}
-use Rattle.table.specs.declared.Named.{Named}
-use Rattle.table.specs.declared.Named.TheVariants.{Known, Unknown}
+use Rattle.std.specs.Prelude.{Option}
+use Rattle.std.specs.Prelude.{Some, None}
 use Rattle.table.specs.Table.{start_in, count_in, rest_in}
 use Rattle.listing.specs.Listing.{listed as listedIn, joined}
 use Rattle.calls.specs.Calls.{Areas, Sent, Call, call_of, lengths_of, area_in}
@@ -67,9 +67,9 @@ pub record Says (board : Conduct) (a : Areas) (asked said : List ℕ) : Type 0 w
       → (board.answer (asking a h checked asked)).text ≡ reply_of normal h.settings.station said
 
 -- a message with its content names none of so many numbers of a kind: it names another kind, or numbers before them, or behind them
-abbrev pub spares : ℕ → ℕ → ℕ → Named → List ℕ → Bool
-spares tag number many Unknown content = true
-spares tag number many (Known m) content =
+abbrev pub spares : ℕ → ℕ → ℕ → Option Message → List ℕ → Bool
+spares tag number many None content = true
+spares tag number many (Some m) content =
     not (eqb m.tag tag) || (leb (start_in m content + count_in m content) number || leb (number + many) (start_in m content))
 
 -- no later write touches them

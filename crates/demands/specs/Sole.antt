@@ -2,7 +2,7 @@
 use Rattle.std.specs.Prelude.{ℕ, ◌≡◌, List}
 use Rattle.finder.specs.declared.Found.{Found}
 use Rattle.finder.specs.Find.{find_in, part_of}
-use Rattle.messages.specs.declared.Asked.{Asked}
+use Rattle.messages.specs.Asked.{Asked}
 use Rattle.messages.specs.declared.Shown.{Shown}
 use Rattle.messages.specs.Shown.{shown_of}
 use Rattle.calls.specs.Calls.{Areas, Call, Outcome}

@@ -7,7 +7,7 @@ use Rattle.kinds.specs.declared.Kind.{Kind}
 use Rattle.kinds.specs.Kinds.{points_of, kind_of, place_of, run_of}
 use Rattle.points.specs.Point.{effective_in}
 use Rattle.table.specs.declared.Message.{Message}
-use Rattle.table.specs.declared.Named.TheVariants.{Known}
+use Rattle.std.specs.Prelude.{Some}
 use Rattle.calls.specs.Calls.{Sent, Call, area_in}
 use Rattle.refusals.specs.Refusals.{refusal_of}
 use Rattle.orders.specs.Orders.{writes}
@@ -20,7 +20,7 @@ use Rattle.demands.specs.Reading.{start_of, count_of, Host, allowed, Reads, Tell
 pub record Accepted (id : ℕ) (c : Call) : Type 0 where
   pub message : Message
   pub named : message.id ≡ id
-  pub known : message_by c.sent ≡ Known message
+  pub known : message_by c.sent ≡ Some message
   pub number : refusal_of c ≡ 0
   pub bytes : (i : ℕ) → get_or c.areas.journal i 0 < 256
 
@@ -59,7 +59,7 @@ pub record Lasts (board : Conduct) (p : Past) : Type 0 where
   pub counted : CountTrue p.areas
   pub tells : Tells board p.areas
   pub read :
-      (earlier later : List Sent) (s : Sent) (m : Message) → p.standing_writes ≡ earlier ++ (s ∷ later) → message_by s ≡ Known m
+      (earlier later : List Sent) (s : Sent) (m : Message) → p.standing_writes ≡ earlier ++ (s ∷ later) → message_by s ≡ Some m
       → Reads board p.areas m s later
 
 pub record EveryDigitSurvives (board : Conduct) : Type 0 where

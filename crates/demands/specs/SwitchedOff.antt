@@ -6,7 +6,7 @@ use Rattle.frames.specs.declared.checks.Sum.TheVariants.{SwitchedOff, Wrong}
 use Rattle.frames.specs.Frame.{sc_in, sum_true, sum_off, sum_said, station_passes}
 use Rattle.messages.specs.Rows.{◌when◌, first_of}
 use Rattle.messages.specs.Asked.{number_given}
-use Rattle.calls.specs.declared.Told.TheVariants.{Untested, Said}
+use Rattle.std.specs.Prelude.{None, Some}
 use Rattle.calls.specs.Calls.{Areas, Sent, Call, Outcome, call_of, unanswered}
 use Rattle.refusals.specs.Refusals.{early, count_rows, told_of}
 use Rattle.link.specs.declared.Answered.{Answered}
@@ -77,13 +77,13 @@ early_numbers = 1 ∷ 2 ∷ 3 ∷ 10 ∷ 4 ∷ 5 ∷ 13 ∷ 6 ∷ []
 
 -- "The answer to a frame says which it was, also where a later refusal follows, or that an earlier one left it untested."
 pub record SumTold (c : Call) (o : Outcome) : Type 0 where
-  pub untested : among o.number early_numbers ≡ true → o.sum ≡ Untested
-  pub tested : among o.number early_numbers ≡ false → o.sum ≡ Said (sum_said c.sent.settings.release c.sent.frame)
+  pub untested : among o.number early_numbers ≡ true → o.sum ≡ None
+  pub tested : among o.number early_numbers ≡ false → o.sum ≡ Some (sum_said c.sent.settings.release c.sent.frame)
   -- "the service log should say which frames used it"
-  pub used_off : among o.number early_numbers ≡ false → (o.sum ≡ Said SwitchedOff) ↔ Off c
+  pub used_off : among o.number early_numbers ≡ false → (o.sum ≡ Some SwitchedOff) ↔ Off c
   -- 7 is a wrong SC's number, and 12 is of '@@' where it is forbidden
-  pub seven : (o.number ≡ 7) ↔ (o.sum ≡ Said Wrong)
-  pub twelve : (o.number ≡ 12) ↔ ((o.sum ≡ Said SwitchedOff) × (c.sent.settings.unchecked ≡ false))
+  pub seven : (o.number ≡ 7) ↔ (o.sum ≡ Some Wrong)
+  pub twelve : (o.number ≡ 12) ↔ ((o.sum ≡ Some SwitchedOff) × (c.sent.settings.unchecked ≡ false))
 
 pub record SwitchedOffRule (board : Conduct) : Type 0 where
   pub as_before : AsBefore board

@@ -7,7 +7,7 @@ use Rattle.finder.specs.declared.Found.TheVariants.{Frame}
 use Rattle.finder.specs.Find.{find_in, part_of}
 use Rattle.finder.specs.Laws.{Quiet, TestCallRule, FoundAsBefore}
 use Rattle.messages.specs.Rows.{first_of}
-use Rattle.calls.specs.declared.Told.TheVariants.{Untested}
+use Rattle.std.specs.Prelude.{None}
 use Rattle.calls.specs.Calls.{Areas, Sent, Call, Outcome, call_of, lengths_of, unanswered}
 use Rattle.refusals.specs.Refusals.{area_rows}
 use Rattle.demands.specs.History.{Conduct, ours}
@@ -50,7 +50,7 @@ EveryTestCall find board =
 abbrev pub OtherLength : Conduct → Type 0
 OtherLength board =
     (a : Areas) → Unrefused a → (h : Sent) → Host h → (frame : List ℕ) → message_in frame ≡ text "200" → (length frame ≡ 20 → ⊥)
-    → board.answer (handed a h frame) ≡ unanswered Untested 6 a
+    → board.answer (handed a h frame) ≡ unanswered None 6 a
 
 -- so no call with a 200H has an error reply, and none is refused 103: it is accepted, or refused without a reply
 abbrev pub NoErrorReply : Conduct → Type 0

@@ -2,7 +2,6 @@ ghost use Rattle.std.specs.Prelude.{◌≡◌, ◌≤◌, length};
 ghost use Rattle.frames.specs.Frame.{has_testID, shaped, says_number, sum_true, sum_off, sum_said, station_passes};
 
 use crate::sums::sum;
-use digits::Field;
 
 // What the sum test says of a frame (document 02, f).
 #[derive(Clone, Copy)]
@@ -59,11 +58,7 @@ fn is_number(release: u8, field: &[u8], n: u8) -> bool
     requires { length field.now ≤ 8 }
     ensures { result ≡ says_number release field.now n }
 {
-    let said = digits::read_field(release, field);
-    match said {
-        Field::Number(m) => m == n as u64,
-        Field::NotDigits => false,
-    }
+    digits::read_field(release, field) == Some(u64::from(n))
 }
 
 // The SC is the low byte of the sum before it.

@@ -11,8 +11,8 @@ use Rattle.frames.specs.Frame.{content_in}
 use Rattle.kinds.specs.declared.Held.{Held}
 use Rattle.kinds.specs.Kinds.{held_in}
 use Rattle.table.specs.declared.Message.{Message}
-use Rattle.messages.specs.declared.Asked.{Asked}
-use Rattle.messages.specs.declared.Asked.TheVariants.{Refused, Order}
+use Rattle.messages.specs.Asked.{Asked}
+use Rattle.messages.specs.Asked.{Refused, Order}
 use Rattle.messages.specs.Rows.{first_of}
 use Rattle.table.specs.Table.{message_of}
 use Rattle.messages.specs.Asked.{asked_rows, asked_of, number_given}

@@ -9,8 +9,9 @@ use borrow.Author.Tests.{ltb-false, eqb-true}
 use Rattle.digits.proofs.Bools.{was_not}
 use Rattle.frames.specs.Frame.{content_in}
 use Rattle.kinds.specs.Kinds.{Sound, kind_of, held_in, size_of}
-use Rattle.table.specs.declared.Named.{Named}
-use Rattle.table.specs.declared.Named.TheVariants.{Known}
+use Rattle.std.specs.Prelude.{Option}
+use Rattle.table.specs.declared.Message.{Message}
+use Rattle.std.specs.Prelude.{Some}
 use Rattle.table.specs.Table.{message_of}
 use Rattle.messages.specs.Asked.{asked_of}
 use Rattle.messages.proofs.Judged.{told}
@@ -53,7 +54,7 @@ areas_long a p =
     v.flags_long
 
 -- the message of an order is the frame's own
-pub ordered_message : (c : Call) (o : Order) → Heard c o → message_of c.sent.settings.release c.sent.frame ≡ Known o.message
+pub ordered_message : (c : Call) (o : Order) → Heard c o → message_of c.sent.settings.release c.sent.frame ≡ Some o.message
 unfolding asked_of
 ordered_message c o e =
     (told (held c) c.sent.settings.fitted c.sent.settings.release (message_of c.sent.settings.release c.sent.frame) (content_in c.sent.frame)
@@ -63,7 +64,7 @@ ordered_message c o e =
 pub counts : (c : Call) (o : Order) → Heard c o → count_fits o.message.does c.areas.points c.areas.kept.effective ≡ true
 counts c o e =
     was_not
-    (sym (ap (λ (n : Named). miscounted n c.areas.points c.areas.kept.effective) (ordered_message c o e)) ∙ (call_passed c e.silent_0).count)
+    (sym (ap (λ (n : Option Message). miscounted n c.areas.points c.areas.kept.effective) (ordered_message c o e)) ∙ (call_passed c e.silent_0).count)
 
 -- the order of a heard frame, with the area of its message's kind
 pub ordered : (c : Call) (o : Order) → Heard c o → {area : List ℕ}

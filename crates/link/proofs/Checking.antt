@@ -11,14 +11,15 @@ use Rattle.digits.specs.Laid.{laid}
 use Rattle.digits.proofs.Laid.{laid_nothing}
 use Rattle.frames.specs.Frame.{error_of}
 use Rattle.kinds.specs.Kinds.{Sound}
-use Rattle.messages.specs.declared.Asked.{Asked}
-use Rattle.messages.specs.declared.Asked.TheVariants.{Refused, Order}
+use Rattle.messages.specs.Asked.{Asked}
+use Rattle.messages.specs.Asked.{Refused, Order}
 use Rattle.messages.specs.Rows.{first_of}
 use Rattle.messages.specs.Asked.{number_given}
 use Rattle.messages.proofs.Judged.{refused_from}
 use Rattle.calls.specs.declared.Kept.{Kept}
-use Rattle.calls.specs.declared.Told.{Told}
-use Rattle.calls.specs.declared.Told.TheVariants.{Untested}
+use Rattle.std.specs.Prelude.{Option}
+use Rattle.frames.specs.declared.checks.Sum.{Sum}
+use Rattle.std.specs.Prelude.{None}
 use Rattle.calls.specs.Calls.{Areas, Call, Outcome, call_of, lengths_of, unanswered}
 use Rattle.calls.proofs.Parts.{equal_parts}
 use Rattle.refusals.specs.Refusals.{too_short, late, silent_of, told_after, told_of, early, check_early, check_silent_of, check_told_of}
@@ -38,11 +39,11 @@ unfolding check_silent_of
 check_first c = refl
 
 -- what a check answers: a refusal without a reply, or what the frame asks
-pub checked_silent : (c : Call) (k : ℕ) (t : Told) → k ≡ check_silent_of c → t ≡ check_told_of c → (k ≡ 0 → ⊥) → record { asked = Refused k; sum = t } ≡ check_of c
+pub checked_silent : (c : Call) (k : ℕ) (t : Option Sum) → k ≡ check_silent_of c → t ≡ check_told_of c → (k ≡ 0 → ⊥) → record { asked = Refused k; sum = t } ≡ check_of c
 unfolding check_of
-checked_silent c k t e s n = rw (← e, ne_eqb k 0 n) (ap (λ (x : Told). record { asked = Refused k; sum = x }) s)
+checked_silent c k t e s n = rw (← e, ne_eqb k 0 n) (ap (λ (x : Option Sum). record { asked = Refused k; sum = x }) s)
 
-pub checked_heard : (c : Call) (a : Asked) (t : Told) → check_silent_of c ≡ 0 → a ≡ asked c → t ≡ check_told_of c → record { asked = a; sum = t } ≡ check_of c
+pub checked_heard : (c : Call) (a : Asked) (t : Option Sum) → check_silent_of c ≡ 0 → a ≡ asked c → t ≡ check_told_of c → record { asked = a; sum = t } ≡ check_of c
 unfolding check_of
 checked_heard c a t e f s = rw e (λ i. record { asked = f i; sum = s i })
 
@@ -99,17 +100,17 @@ module _ (c : Call) (e : too_short (length c.sent.reply) ≡ true) where
   unfolding silent_of
   short_silent = rw e
 
-  pub short_act : act_of c ≡ unanswered Untested 1 c.areas
+  pub short_act : act_of c ≡ unanswered None 1 c.areas
   unfolding act_of
   short_act = rw e
 
   some : {n : ℕ} → n ≡ 1 → n ≡ 0 → ⊥
   some f z = absurd (omega (arith, f, z))
 
-  short_answer : answer_of c ≡ unanswered Untested 1 c.areas
+  short_answer : answer_of c ≡ unanswered None 1 c.areas
   short_answer =
       silent_answer c 1 (sym short_silent) (some refl)
-      ∙ ap (λ (t : Told). unanswered t 1 c.areas) (told_untested c.sent.settings.release c.sent.frame (some short_early))
+      ∙ ap (λ (t : Option Sum). unanswered t 1 c.areas) (told_untested c.sent.settings.release c.sent.frame (some short_early))
 
 -- and with one that is long enough: the tests of an answer are those of a check
 module _ (c : Call) (e : too_short (length c.sent.reply) ≡ false) where
@@ -124,7 +125,7 @@ module _ (c : Call) (e : too_short (length c.sent.reply) ≡ false) where
   long_told = ap (λ (n : ℕ). told_after n c.sent.settings.release c.sent.frame) long_early
 
   -- what is done where the check answered so
-  abbrev doing : Asked → Told → Outcome
+  abbrev doing : Asked → Option Sum → Outcome
   doing a t = record { number = number_given a; text = act_text c a; areas = areas_after c a; sum = t }
 
   pub long_act : act_of c ≡ doing (check_of c).asked (check_of c).sum
@@ -168,9 +169,9 @@ same_gives {f} c e x =
 
 -- the act's three ends: the reply area is too short
 pub acted_short : (c : Call) → length c.sent.reply < 1024
-    → Acts c (record { number = 1; length = 0; kept = c.areas.kept; sum = Untested }) c.areas c.sent.reply
+    → Acts c (record { number = 1; length = 0; kept = c.areas.kept; sum = None }) c.areas c.sent.reply
 acted_short c e =
-    gives_by c (unanswered Untested 1 c.areas) _ c.areas c.sent.reply refl (short_act c (lt-ltb _ _ e)) refl refl refl refl
+    gives_by c (unanswered None 1 c.areas) _ c.areas c.sent.reply refl (short_act c (lt-ltb _ _ e)) refl refl refl refl
     (sym (laid_nothing c.sent.reply 0))
 
 module _ (c : Call) (long : 1024 ≤ length c.sent.reply) {k : Checked} (checked : k ≡ check_of c) where

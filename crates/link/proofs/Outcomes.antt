@@ -16,12 +16,13 @@ use Rattle.kinds.specs.Kinds.{points_tag, columns_tag, integers_tag, flags_tag, 
 use Rattle.kinds.proofs.Known.{each_kind, kind_points, kind_columns, kind_integers, kind_flags, tag_of, few}
 use Rattle.journal.specs.Journal.{encodes, entries_in, added, area_of, puts, entry_for}
 use Rattle.points.specs.Point.{effective_in}
-use Rattle.messages.specs.declared.Asked.{Asked}
-use Rattle.messages.specs.declared.Asked.TheVariants as asks
+use Rattle.messages.specs.Asked.{Asked}
+use Rattle.messages.specs.Asked as asks
 use Rattle.messages.specs.Asked.{number_given}
 use Rattle.writes.specs.Writes.{Written}
 use Rattle.calls.specs.declared.Kept.{Kept}
-use Rattle.calls.specs.declared.Told.{Told}
+use Rattle.std.specs.Prelude.{Option}
+use Rattle.frames.specs.declared.checks.Sum.{Sum}
 use Rattle.calls.specs.Calls.{Areas, Call, Outcome, areas_of, area_in, count_after, written}
 use Rattle.calls.proofs.Parts.{equal_parts}
 use Rattle.refusals.specs.Refusals.{count_fits, journal_fits, silent_of, told_of}
@@ -169,7 +170,7 @@ module _ {c : Call} {o : Order} (e : Heard c o) (tag : ℕ) (whole : replacing t
         (p.bytes ∙ ap (λ (x : List ℕ). laid c.sent.reply 0 (reply_of normal c.sent.settings.station x)) said)
 
 -- the result that says so
-pub accepted_so : {c : Call} {r : Answered} (done : Done) {t : Told} {p i n f j reply' : List ℕ} {s : Firsts} → r ≡ accepted done t → t ≡ told_of c
+pub accepted_so : {c : Call} {r : Answered} (done : Done) {t : Option Sum} {p i n f j reply' : List ℕ} {s : Firsts} → r ≡ accepted done t → t ≡ told_of c
     → Performs c done (areas_of p i n f j done.kept s) reply' → Answers c r (areas_of p i n f j r.kept s) reply'
 accepted_so {c} done {t} {p} {i} {n} {f} {j} {reply'} {s} e g a =
-    subst (λ (x : Answered). Answers c x (areas_of p i n f j x.kept s) reply') (sym (e ∙ ap (λ (x : Told). accepted done x) g)) a
+    subst (λ (x : Answered). Answers c x (areas_of p i n f j x.kept s) reply') (sym (e ∙ ap (λ (x : Option Sum). accepted done x) g)) a

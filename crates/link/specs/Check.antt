@@ -2,10 +2,10 @@
 -- by the same rules and does it."
 use Rattle.std.specs.Prelude.{ℕ, cond, List, [], eqb, ltb, length}
 use Rattle.frames.specs.Frame.{error_of}
-use Rattle.messages.specs.declared.Asked.{Asked}
-use Rattle.messages.specs.declared.Asked.TheVariants.{Refused, Order}
+use Rattle.messages.specs.Asked.{Asked}
+use Rattle.messages.specs.Asked.{Refused, Order}
 use Rattle.messages.specs.Asked.{number_given}
-use Rattle.calls.specs.declared.Told.TheVariants.{Untested}
+use Rattle.std.specs.Prelude.{None}
 use Rattle.calls.specs.Calls.{Call, Outcome, unanswered}
 use Rattle.refusals.specs.Refusals.{too_short, check_silent_of, check_told_of}
 use Rattle.link.specs.declared.Checked.{Checked}
@@ -28,5 +28,5 @@ act_text c (Order m start count) = text_of c (Order m start count)
 unfoldable pub act_of : Call → Outcome
 act_of c =
     let k = check_of c in
-    cond (too_short (length c.sent.reply)) (unanswered Untested 1 c.areas)
+    cond (too_short (length c.sent.reply)) (unanswered None 1 c.areas)
     (record { number = number_given k.asked; text = act_text c k.asked; areas = areas_after c k.asked; sum = k.sum })

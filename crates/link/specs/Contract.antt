@@ -2,10 +2,11 @@
 -- leaves no byte, has one equation, with `check_of`.
 use Rattle.std.specs.Prelude.{ℕ, ◌≡◌, List, length}
 use Rattle.digits.specs.Laid.{laid}
-use Rattle.calls.specs.declared.Told.{Told}
+use Rattle.std.specs.Prelude.{Option}
+use Rattle.frames.specs.declared.checks.Sum.{Sum}
 use Rattle.calls.specs.Calls.{Areas, Call, Outcome}
 use Rattle.link.specs.declared.Answered.{Answered}
-use Rattle.messages.specs.declared.Asked.TheVariants as asks
+use Rattle.messages.specs.Asked as asks
 use Rattle.refusals.specs.Refusals.{silent_of, told_of}
 use Rattle.orders.specs.declared.Order.{Order}
 use Rattle.orders.specs.declared.Done.{Done}
@@ -19,7 +20,7 @@ pub record Heard (c : Call) (o : Order) : Type 0 where
   pub order : asked c ≡ asks.Order o.message o.start o.count
 
 -- an order that was carried out: "An accepted call has number 0."
-abbrev pub accepted : Done → Told → Answered
+abbrev pub accepted : Done → Option Sum → Answered
 accepted done told = record { number = 0; length = done.length; kept = done.kept; sum = told }
 
 -- what a call gives and leaves is its outcome; the reply is laid over the front of the reply area, and what is beyond it stays

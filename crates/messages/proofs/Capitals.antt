@@ -16,10 +16,10 @@ use Rattle.points.proofs.Capitals.{behind, same_fills}
 use Rattle.table.specs.declared.Follows.{Follows}
 use Rattle.table.specs.declared.Follows.TheVariants.{Nothing, TenBytes, AxisPattern, Points, RunBytes, ChangeType}
 use Rattle.table.specs.declared.Message.{Message}
-use Rattle.table.specs.declared.Named.{Named}
-use Rattle.table.specs.declared.Named.TheVariants.{Known, Unknown}
+use Rattle.std.specs.Prelude.{Option}
+use Rattle.std.specs.Prelude.{Some, None}
 use Rattle.table.specs.Table.{fields_of, start_in, count_in, rest_in, follows_right, any_bytes, have_points, have_type, pattern_fits, patterns_fit}
-use Rattle.messages.specs.declared.Asked.TheVariants.{Refused, Order}
+use Rattle.messages.specs.Asked.{Refused, Order}
 use Rattle.messages.specs.Asked.{not_digits, wrong_length, wrong_program, count_zero, not_held, wrong_pattern, wrong_type, asked_rows, judged}
 use Rattle.messages.proofs.Judged.{pick, picked, judged_known, Right, written}
 
@@ -91,14 +91,14 @@ module _ (m : Message) (s : List ℕ) where
         let d : not_digits 2 m (capitals s) ≡ not_digits 2 m s = ap (λ (b : Bool). not (any_bytes m.follows) && not b) ((rules s).either 2) in
         λ i. pick (d i) (same_long i) (same_program i) (same_some i) (same_held i) (same_pattern fitted i) (same_type i)
 
-    known_same : (fitted : ℕ) → judged held fitted 2 (Known m) (capitals s) ≡ judged held fitted 2 (Known m) s
+    known_same : (fitted : ℕ) → judged held fitted 2 (Some m) (capitals s) ≡ judged held fitted 2 (Some m) s
     known_same fitted =
         let p = same_picked fitted in
         judged_known held fitted 2 m (capitals s) ∙ (λ i. cond (eqb (p i) 0) (Order m (same_start i) (same_count i)) (Refused (p i)))
         ∙ sym (judged_known held fitted 2 m s)
 
 -- under release 2 a content is judged as its capitals are
-pub same_judged : (held : Held) (fitted : ℕ) (n : Named) (s : List ℕ) → judged held fitted 2 n (capitals s) ≡ judged held fitted 2 n s
+pub same_judged : (held : Held) (fitted : ℕ) (n : Option Message) (s : List ℕ) → judged held fitted 2 n (capitals s) ≡ judged held fitted 2 n s
 unfolding judged asked_rows
-same_judged held fitted Unknown s = refl
-same_judged held fitted (Known m) s = known_same m s held fitted
+same_judged held fitted None s = refl
+same_judged held fitted (Some m) s = known_same m s held fitted

@@ -17,10 +17,10 @@ use Rattle.points.specs.Point.{fills_of}
 use Rattle.table.specs.declared.Follows.{Follows}
 use Rattle.table.specs.declared.Follows.TheVariants.{Nothing, TenBytes, AxisPattern, Points, RunBytes, ChangeType}
 use Rattle.table.specs.declared.Message.{Message}
-use Rattle.table.specs.declared.Named.{Named}
-use Rattle.table.specs.declared.Named.TheVariants.{Known, Unknown}
-use Rattle.messages.specs.declared.Asked.{Asked}
-use Rattle.messages.specs.declared.Asked.TheVariants.{Refused, Order}
+use Rattle.std.specs.Prelude.{Option}
+use Rattle.std.specs.Prelude.{Some, None}
+use Rattle.messages.specs.Asked.{Asked}
+use Rattle.messages.specs.Asked.{Refused, Order}
 use Rattle.messages.specs.Rows.{first_of}
 use Rattle.table.specs.Table.{message_of, fields_of, program_in, start_in, count_in, rest_in, follows_right, any_bytes, have_points, have_type, patterns_fit}
 use Rattle.messages.specs.Asked.{not_digits, wrong_length, wrong_program, count_zero, not_held, wrong_pattern, wrong_type, asked_rows, judged, asked_of, number_given}
@@ -35,11 +35,11 @@ module _ (held : Held) (fitted release : ℕ) (m : Message) (content : List ℕ)
       (wrong_pattern fitted m content)
       (wrong_type m content)
 
-  pub picked_rows : first_of (asked_rows held fitted release (Known m) content) ≡ picked
+  pub picked_rows : first_of (asked_rows held fitted release (Some m) content) ≡ picked
   unfolding asked_rows
   picked_rows = refl
 
-  pub judged_known : judged held fitted release (Known m) content ≡ cond (eqb picked 0) (Order m (start_in m content) (count_in m content)) (Refused picked)
+  pub judged_known : judged held fitted release (Some m) content ≡ cond (eqb picked 0) (Order m (start_in m content) (count_in m content)) (Refused picked)
   unfolding judged asked_rows
   judged_known = refl
 
@@ -75,11 +75,11 @@ module _ (held : Held) (fitted release : ℕ) (m : Message) (content : List ℕ)
       record { digits = h.0; long = h.1; program = h.2; some = h.3; held_all = h.4; pattern = h.5; type = h.6 }
 
   -- such a content is the message's order
-  pub ordered : Right held fitted release m content → judged held fitted release (Known m) content ≡ Order m (start_in m content) (count_in m content)
+  pub ordered : Right held fitted release m content → judged held fitted release (Some m) content ≡ Order m (start_in m content) (count_in m content)
   ordered r = judged_known held fitted release m content ∙ rw (r.digits, r.long, r.program, r.some, r.held_all, r.pattern, r.type)
 
   -- the number that is given is the rows'
-  pub known_number : number_given (judged held fitted release (Known m) content) ≡ first_of (asked_rows held fitted release (Known m) content)
+  pub known_number : number_given (judged held fitted release (Some m) content) ≡ first_of (asked_rows held fitted release (Some m) content)
   unfolding asked_rows
   known_number = ap number_given (judged_known held fitted release m content) ∙ go (picked held fitted release m content)
     where
@@ -90,12 +90,12 @@ module _ (held : Held) (fitted release : ℕ) (m : Message) (content : List ℕ)
           pass true e = sym (eqb-true k 0 e)
           pass false e = refl
 
-pub number_judged : (held : Held) (fitted release : ℕ) (n : Named) (content : List ℕ) → number_given (judged held fitted release n content) ≡ first_of (asked_rows held fitted release n content)
+pub number_judged : (held : Held) (fitted release : ℕ) (n : Option Message) (content : List ℕ) → number_given (judged held fitted release n content) ≡ first_of (asked_rows held fitted release n content)
 unfolding judged
-number_judged held fitted release Unknown content = refl
-number_judged held fitted release (Known m) content = known_number held fitted release m content
+number_judged held fitted release None content = refl
+number_judged held fitted release (Some m) content = known_number held fitted release m content
 
-unknown_some : (held : Held) (fitted release : ℕ) (content : List ℕ) → judged held fitted release Unknown content ≡ Refused 0 → ⊥
+unknown_some : (held : Held) (fitted release : ℕ) (content : List ℕ) → judged held fitted release None content ≡ Refused 0 → ⊥
 unfolding judged asked_rows
 unknown_some held fitted release content e = let z : ◌≡◌ {A = ℕ} 101 0 = cc in omega arith
 
@@ -109,9 +109,9 @@ refused_some held fitted release frame = go (message_of release frame)
     known m k true e f = let z : ◌≡◌ {A = ℕ} 0 1 = cc in omega arith
     known m k false e f = let z : k ≡ 0 = cc in eqb-false k 0 e z
 
-    go : (n : Named) → judged held fitted release n (content_in frame) ≡ Refused 0 → ⊥
-    go Unknown e = unknown_some held fitted release (content_in frame) e
-    go (Known m) e = known m (picked held fitted release m (content_in frame)) (eqb (picked held fitted release m (content_in frame)) 0) refl (sym (judged_known held fitted release m (content_in frame)) ∙ e)
+    go : (n : Option Message) → judged held fitted release n (content_in frame) ≡ Refused 0 → ⊥
+    go None e = unknown_some held fitted release (content_in frame) e
+    go (Some m) e = known m (picked held fitted release m (content_in frame)) (eqb (picked held fitted release m (content_in frame)) 0) refl (sym (judged_known held fitted release m (content_in frame)) ∙ e)
 
 picked_from : (p q r s t u v : Bool) → (pick p q r s t u v ≡ 0 → ⊥) → 101 ≤ pick p q r s t u v
 picked_from true q r s t u v n = omega arith
@@ -124,11 +124,11 @@ picked_from false false false false false false true n = omega arith
 picked_from false false false false false false false n = absurd (n refl)
 
 -- and each is from 101 on: it has an error reply
-pub asked_from : (held : Held) (fitted release : ℕ) (n : Named) (content : List ℕ) → (first_of (asked_rows held fitted release n content) ≡ 0 → ⊥)
+pub asked_from : (held : Held) (fitted release : ℕ) (n : Option Message) (content : List ℕ) → (first_of (asked_rows held fitted release n content) ≡ 0 → ⊥)
     → 101 ≤ first_of (asked_rows held fitted release n content)
 unfolding asked_rows
-asked_from held fitted release Unknown content z = omega arith
-asked_from held fitted release (Known m) content z =
+asked_from held fitted release None content z = omega arith
+asked_from held fitted release (Some m) content z =
     picked_from (not_digits release m content) (wrong_length held m content) (wrong_program m content) (count_zero m content) (not_held held m content)
     (wrong_pattern fitted m content)
     (wrong_type m content)
@@ -142,26 +142,26 @@ refused_from held fitted release frame k e =
     (asked_from held fitted release (message_of release frame) (content_in frame) (λ z. refused_some held fitted release frame (e ∙ ap Refused (sym g ∙ z))))
 
 -- what an order tells of the message and the content
-pub record Told (held : Held) (fitted release : ℕ) (n : Named) (content : List ℕ) (m : Message) (start count : ℕ) : Type 0 where
-  pub message : n ≡ Known m
+pub record Told (held : Held) (fitted release : ℕ) (n : Option Message) (content : List ℕ) (m : Message) (start count : ℕ) : Type 0 where
+  pub message : n ≡ Some m
   pub start_is : start ≡ start_in m content
   pub count_is : count ≡ count_in m content
   pub rows : Right held fitted release m content
 
-pub told : (held : Held) (fitted release : ℕ) (n : Named) (content : List ℕ) (m : Message) (start count : ℕ) → judged held fitted release n content ≡ Order m start count
+pub told : (held : Held) (fitted release : ℕ) (n : Option Message) (content : List ℕ) (m : Message) (start count : ℕ) → judged held fitted release n content ≡ Order m start count
     → Told held fitted release n content m start count
 unfolding judged
-told held fitted release Unknown content m start count e = absurd (let z : ◌≡◌ {A = ℕ} 0 1 = cc in omega arith)
-told held fitted release (Known k) content m start count e = go (eqb (picked held fitted release k content) 0) refl (sym (judged_known held fitted release k content) ∙ e)
+told held fitted release None content m start count e = absurd (let z : ◌≡◌ {A = ℕ} 0 1 = cc in omega arith)
+told held fitted release (Some k) content m start count e = go (eqb (picked held fitted release k content) 0) refl (sym (judged_known held fitted release k content) ∙ e)
   where
     go : (b : Bool) → eqb (picked held fitted release k content) 0 ≡ b
-        → cond b (Order k (start_in k content) (count_in k content)) (Refused (picked held fitted release k content)) ≡ Order m start count → Told held fitted release (Known k) content m start count
+        → cond b (Order k (start_in k content) (count_in k content)) (Refused (picked held fitted release k content)) ≡ Order m start count → Told held fitted release (Some k) content m start count
     go true z f =
         let q : k ≡ m = cc in
         let s : start_in k content ≡ start = cc in
         let c : count_in k content ≡ count = cc in
         record {
-          message = ap Known q;
+          message = ap Some q;
           start_is = sym s ∙ ap (λ (x : Message). start_in x content) q;
           count_is = sym c ∙ ap (λ (x : Message). count_in x content) q;
           rows = subst (λ (x : Message). Right held fitted release x content) q (right held fitted release k content (eqb-true _ _ z));
@@ -209,7 +209,7 @@ same_unlisted x e t = cc
 pub same_fills : {k k' : ℕ} {t t' : List ℕ} → fills_of k' t' ≡ true → k ≡ k' → t ≡ t' → fills_of k t ≡ true
 same_fills e k t = cc
 
-pub same_judged : {a : Asked} {n n' : Named} {t t' : List ℕ} (held : Held) (fitted release : ℕ) → a ≡ judged held fitted release n t → n ≡ n' → t ≡ t' → a ≡ judged held fitted release n' t'
+pub same_judged : {a : Asked} {n n' : Option Message} {t t' : List ℕ} (held : Held) (fitted release : ℕ) → a ≡ judged held fitted release n t → n ≡ n' → t ≡ t' → a ≡ judged held fitted release n' t'
 same_judged held fitted release e n t = cc
 
 pub same_order : {s s' c c' : ℕ} (m : Message) {a : Asked} → Order m s' c' ≡ a → s ≡ s' → c ≡ c' → Order m s c ≡ a
@@ -238,37 +238,37 @@ one_digit u k t ChangeType p f = eqb-true _ _ f
 
 -- each return of the judgement, test after test
 module _ (held : Held) (fitted release : ℕ) (m : Message) (content : List ℕ) where
-  pub at_102 : not_digits release m content ≡ true → Refused 102 ≡ judged held fitted release (Known m) content
+  pub at_102 : not_digits release m content ≡ true → Refused 102 ≡ judged held fitted release (Some m) content
   at_102 d = sym (judged_known held fitted release m content ∙ rw d)
 
   module _ (d : not_digits release m content ≡ false) where
-    pub too_short_lem : length content < fields_of m → Refused 103 ≡ judged held fitted release (Known m) content
+    pub too_short_lem : length content < fields_of m → Refused 103 ≡ judged held fitted release (Some m) content
     too_short_lem l = sym (judged_known held fitted release m content ∙ rw (d, lt-leb _ _ l))
 
     module _ (l : fields_of m ≤ length content) where
       pub at_103 : follows_right m.follows (kind_of held m.tag).unit (count_in m content) (rest_in m content) ≡ false
-          → Refused 103 ≡ judged held fitted release (Known m) content
+          → Refused 103 ≡ judged held fitted release (Some m) content
       at_103 f = sym (judged_known held fitted release m content ∙ rw (d, le-leb _ _ l, f))
 
       module _ (f : follows_right m.follows (kind_of held m.tag).unit (count_in m content) (rest_in m content) ≡ true) where
-        pub at_104 : (program_in m content ≡ 0 → ⊥) → Refused 104 ≡ judged held fitted release (Known m) content
+        pub at_104 : (program_in m content ≡ 0 → ⊥) → Refused 104 ≡ judged held fitted release (Some m) content
         at_104 p = sym (judged_known held fitted release m content ∙ rw (d, le-leb _ _ l, f, ne_eqb _ _ p))
 
         module _ (p : program_in m content ≡ 0) where
-          pub at_105 : count_zero m content ≡ true → Refused 105 ≡ judged held fitted release (Known m) content
+          pub at_105 : count_zero m content ≡ true → Refused 105 ≡ judged held fitted release (Some m) content
           at_105 z = sym (judged_known held fitted release m content ∙ rw (d, le-leb _ _ l, f, eq-eqb _ _ p, z))
 
           module _ (z : count_zero m content ≡ false) where
-            pub at_106 : not_held held m content ≡ true → Refused 106 ≡ judged held fitted release (Known m) content
+            pub at_106 : not_held held m content ≡ true → Refused 106 ≡ judged held fitted release (Some m) content
             at_106 h = sym (judged_known held fitted release m content ∙ rw (d, le-leb _ _ l, f, eq-eqb _ _ p, z, h))
 
             module _ (h : not_held held m content ≡ false) where
-              pub at_107 : wrong_pattern fitted m content ≡ true → Refused 107 ≡ judged held fitted release (Known m) content
+              pub at_107 : wrong_pattern fitted m content ≡ true → Refused 107 ≡ judged held fitted release (Some m) content
               at_107 w = sym (judged_known held fitted release m content ∙ rw (d, le-leb _ _ l, f, eq-eqb _ _ p, z, h, w))
 
               module _ (w : wrong_pattern fitted m content ≡ false) where
-                pub at_108 : wrong_type m content ≡ true → Refused 108 ≡ judged held fitted release (Known m) content
+                pub at_108 : wrong_type m content ≡ true → Refused 108 ≡ judged held fitted release (Some m) content
                 at_108 t = sym (judged_known held fitted release m content ∙ rw (d, le-leb _ _ l, f, eq-eqb _ _ p, z, h, w, t))
 
-                pub at_order : wrong_type m content ≡ false → Order m (start_in m content) (count_in m content) ≡ judged held fitted release (Known m) content
+                pub at_order : wrong_type m content ≡ false → Order m (start_in m content) (count_in m content) ≡ judged held fitted release (Some m) content
                 at_order t = sym (judged_known held fitted release m content ∙ rw (d, le-leb _ _ l, f, eq-eqb _ _ p, z, h, w, t))

@@ -1,3 +1,4 @@
+pub mod Numbered
 pub mod Judged
 pub mod Capitals
 pub mod Shapes

@@ -15,7 +15,7 @@ use Rattle.table.specs.declared.Follows.TheVariants.{TenBytes, AxisPattern, Poin
 use Rattle.table.specs.declared.Action.{Action}
 use Rattle.table.specs.declared.Action.TheVariants.{SayBack, CountPoints, ListPoints, ReadRun, AxisStatus, WritePoints, ClearRun, ChangeRun, ShowFlags, SetFlag}
 use Rattle.table.specs.declared.Message.{Message}
-use Rattle.table.specs.declared.Named.TheVariants.{Known, Unknown}
+use Rattle.std.specs.Prelude.{Some, None}
 use Rattle.table.specs.Table.{messages, named_in, message_numbered, message_of, fields_of, Narrow}
 
 -- what holds of each row holds of the one that is found
@@ -24,19 +24,19 @@ Each P [] = Unit
 Each P (m ∷ ms) = P m × Each P ms
 
 module _ (P : Message → Type 0) where
-  pub found : (id : ℕ) (ms : List Message) {m : Message} → Each P ms → named_in id ms ≡ Known m → P m
+  pub found : (id : ℕ) (ms : List Message) {m : Message} → Each P ms → named_in id ms ≡ Some m → P m
   found id [] h e = absurd (let z : ◌≡◌ {A = ℕ} 0 1 = cc in omega arith)
   found id (k ∷ ms) {m} h e = go (eqb id k.id) (λ f. found id ms h.1 f) e
     where
-      go : (b : Bool) → (named_in id ms ≡ Known m → P m) → cond b (Known k) (named_in id ms) ≡ Known m → P m
+      go : (b : Bool) → (named_in id ms ≡ Some m → P m) → cond b (Some k) (named_in id ms) ≡ Some m → P m
       go true g f = let q : k ≡ m = cc in subst P q h.0
       go false g f = g f
 
-  pub in_frame : (release : ℕ) (frame : List ℕ) {m : Message} → Each P messages → message_of release frame ≡ Known m → P m
+  pub in_frame : (release : ℕ) (frame : List ℕ) {m : Message} → Each P messages → message_of release frame ≡ Some m → P m
   unfolding message_of message_numbered
   in_frame release frame {m} h e = go (admitted release (message_in frame)) e
     where
-      go : (b : Bool) → cond b (named_in (number_of (message_in frame)) messages) Unknown ≡ Known m → P m
+      go : (b : Bool) → cond b (named_in (number_of (message_in frame)) messages) None ≡ Some m → P m
       go true f = found (number_of (message_in frame)) messages h f
       go false f = absurd (let z : ◌≡◌ {A = ℕ} 0 1 = cc in omega arith)
 
@@ -80,5 +80,5 @@ shaped_row m w s =
 pub each_shaped : Each Shaped messages
 each_shaped = (shaped_row _ refl (refl, refl), (shaped_row _ refl refl, (shaped_row _ refl (refl, omega arith, omega arith), (shaped_row _ refl (refl, omega arith, omega arith), (shaped_row _ refl (inr refl, omega arith, refl), (shaped_row _ refl (inl refl, omega arith, refl), (shaped_row _ refl (refl, refl), (shaped_row _ refl ((refl, omega arith, omega arith), refl), (shaped_row _ refl (refl, omega arith, omega arith), (shaped_row _ refl (refl, omega arith, refl, refl), (shaped_row _ refl ((inr refl, omega arith, refl), refl), (shaped_row _ refl ((inl refl, omega arith, refl), refl), tt))))))))))))
 
-pub shaped : (release : ℕ) (frame : List ℕ) (m : Message) → message_of release frame ≡ Known m → Shaped m
+pub shaped : (release : ℕ) (frame : List ℕ) (m : Message) → message_of release frame ≡ Some m → Shaped m
 shaped release frame m e = in_frame Shaped release frame each_shaped e

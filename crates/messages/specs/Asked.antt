@@ -1,16 +1,27 @@
 -- Document 01, "Refusal numbers, in the order tested", 101 to 107, and document 02, requests a, 108, and l: what a message with its content asks.
-use Rattle.std.specs.Prelude.{ℕ, Bool, true, cond, not, ◌&&◌, List, [], ◌∷◌, leb, eqb}
+use Rattle.std.specs.Prelude.{ℕ, Bool, true, cond, not, ◌&&◌, List, [], ◌∷◌, leb, eqb, Result, Ok, Err}
 use Rattle.digits.specs.Digits.{admitted, number_of}
 use Rattle.frames.specs.Frame.{content_in}
 use Rattle.kinds.specs.declared.Held.{Held}
 use Rattle.kinds.specs.Kinds.{kind_of, holds}
 use Rattle.table.specs.declared.Message.{Message}
-use Rattle.table.specs.declared.Named.{Named}
-use Rattle.table.specs.declared.Named.TheVariants.{Known, Unknown}
-use Rattle.messages.specs.declared.Asked.{Asked}
-use Rattle.messages.specs.declared.Asked.TheVariants.{Refused, Order}
+use Rattle.std.specs.Prelude.{Option}
+use Rattle.std.specs.Prelude.{Some, None}
+use Rattle.messages.specs.declared.refusal.Refusal.{Refusal}
+use Rattle.messages.specs.declared.Request.{Request}
+use Rattle.messages.specs.Refusal.{refusal_number}
 use Rattle.messages.specs.Rows.{Row, ◌when◌, first_of}
 use Rattle.table.specs.Table.{message_of, program_in, start_in, count_in, rest_in, length_right, any_bytes, have_points, have_type, patterns_fit}
+
+-- what a frame asks: a refusal, by its number, or a message's order with its start number and count
+pub data Asked : Type 0 where
+  Refused : (number : ℕ) → Asked
+  Order : (message : Message) → (start count : ℕ) → Asked
+
+-- what an answer says that a frame asks
+abbrev pub asked_by : Result Request Refusal → Asked
+asked_by (Ok r) = Order r.message r.start r.count
+asked_by (Err refusal) = Refused (refusal_number refusal)
 
 -- 102: "a content byte isn't a digit (not 200H)", as a release admits it (02, l)
 abbrev pub not_digits : ℕ → Message → List ℕ → Bool
@@ -41,9 +52,9 @@ abbrev pub wrong_type : Message → List ℕ → Bool
 wrong_type m content = have_type m.follows && not (leb (number_of (rest_in m content)) 1)
 
 -- 101: "message unknown"; then the rows of a message that is known
-unfoldable pub asked_rows : Held → ℕ → ℕ → Named → List ℕ → List Row
-asked_rows held fitted release Unknown content = (101 when true) ∷ []
-asked_rows held fitted release (Known m) content =
+unfoldable pub asked_rows : Held → ℕ → ℕ → Option Message → List ℕ → List Row
+asked_rows held fitted release None content = (101 when true) ∷ []
+asked_rows held fitted release (Some m) content =
     (102 when (not_digits release m content))
     ∷ (103 when (wrong_length held m content))
     ∷ (104 when (wrong_program m content))
@@ -54,12 +65,12 @@ asked_rows held fitted release (Known m) content =
     ∷ []
 
 -- the refusal's number, or, where none is given, the order with its numbers
-unfoldable pub judged : Held → ℕ → ℕ → Named → List ℕ → Asked
-judged held fitted release Unknown content = Refused (first_of (asked_rows held fitted release Unknown content))
-judged held fitted release (Known m) content =
-    cond (eqb (first_of (asked_rows held fitted release (Known m) content)) 0)
+unfoldable pub judged : Held → ℕ → ℕ → Option Message → List ℕ → Asked
+judged held fitted release None content = Refused (first_of (asked_rows held fitted release None content))
+judged held fitted release (Some m) content =
+    cond (eqb (first_of (asked_rows held fitted release (Some m) content)) 0)
     (Order m (start_in m content) (count_in m content))
-    (Refused (first_of (asked_rows held fitted release (Known m) content)))
+    (Refused (first_of (asked_rows held fitted release (Some m) content)))
 
 -- what a frame asks of a board that holds so much, with these axes fitted, under a release
 unfoldable pub asked_of : Held → ℕ → ℕ → List ℕ → Asked

@@ -3,9 +3,9 @@ use Rattle.std.specs.Prelude.{ℕ, ◌≡◌, List}
 use Rattle.frames.specs.Frame.{content_in}
 use Rattle.kinds.specs.declared.Held.{Held}
 use Rattle.table.specs.declared.Message.{Message}
-use Rattle.table.specs.declared.Named.TheVariants.{Known}
+use Rattle.std.specs.Prelude.{Some}
 use Rattle.table.specs.Table.{message_of, start_in, count_in}
-use Rattle.messages.specs.declared.Asked.TheVariants.{Refused, Order}
+use Rattle.messages.specs.Asked.{Refused, Order}
 use Rattle.messages.specs.Rows.{first_of}
 use Rattle.messages.specs.Asked.{asked_rows, asked_of, number_given}
 
@@ -17,7 +17,7 @@ pub record Judgement (held : Held) (fitted release : ℕ) (frame : List ℕ) : T
   -- "Each message": an order is of the frame's own message, with the numbers that its content writes
   pub order :
       (m : Message) (start count : ℕ) → asked_of held fitted release frame ≡ Order m start count
-      → (message_of release frame ≡ Known m) × (start ≡ start_in m (content_in frame)) × (count ≡ count_in m (content_in frame))
+      → (message_of release frame ≡ Some m) × (start ≡ start_in m (content_in frame)) × (count ≡ count_in m (content_in frame))
   -- "An accepted call has number 0": no refusal is given as 0
   pub refused : asked_of held fitted release frame ≡ Refused 0 → ⊥
 

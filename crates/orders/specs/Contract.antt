@@ -6,7 +6,7 @@ use Rattle.kinds.specs.Kinds.{points_tag, Sound, kind_of, holds, size_of}
 use Rattle.points.specs.Point.{effective_in}
 use Rattle.slots.specs.Counted.{effective_among}
 use Rattle.table.specs.Table.{rest_in}
-use Rattle.messages.specs.declared.Asked.TheVariants as asked
+use Rattle.messages.specs.Asked as asked
 use Rattle.messages.specs.Asked.{asked_of}
 use Rattle.heads.specs.Laws.{Replied}
 use Rattle.writes.specs.Writes.{Written}

@@ -13,6 +13,7 @@ use Rattle.table.specs.declared.Message.{Message}
 use Rattle.table.specs.Table.{rest_in}
 use Rattle.heads.specs.Heads.{head_of, run_text, flags_text}
 use Rattle.queries.specs.Replies.{same_text, count_text, list_text, axes_text}
+use Rattle.axes.specs.Records.{records_of}
 use Rattle.calls.specs.declared.Kept.{Kept}
 use Rattle.calls.specs.Calls.{Sent}
 
@@ -57,7 +58,7 @@ said_by CountPoints h s kept m start count area = count_text m kept.effective
 said_by ListPoints h s kept m start count area = list_text m start count (drop (place_of (points_of h) start) area)
 said_by ReadRun h s kept m start count area = run_text m (kind_of h m.tag) start count area
 -- 212H: "the asked pattern with unfitted axes removed"
-said_by AxisStatus h s kept m start count area = axes_text m (bit_and (number_of (rest s m)) s.settings.fitted) s.axes.records
+said_by AxisStatus h s kept m start count area = axes_text m (bit_and (number_of (rest s m)) s.settings.fitted) (records_of s.axes)
 said_by WritePoints h s kept m start count area = head_of m start count
 said_by ClearRun h s kept m start count area = head_of m start count
 said_by ChangeRun h s kept m start count area = head_of m start count

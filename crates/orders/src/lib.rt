@@ -10,7 +10,7 @@ ghost use Rattle.refusals.specs.Refusals.{count_fits, journal_fits};
 ghost use Rattle.orders.specs.Orders.{writes};
 ghost use Rattle.orders.specs.Contract.{Ordered, Says, Stores, Within, count_named, count_left};
 
-use axes::Axes;
+use axes::{Axes, records_of};
 use calls::{Kept, Settings};
 use contents::content;
 use heads::{reply_flags, reply_head, reply_run};
@@ -77,8 +77,8 @@ fn say(
         Action::ReadRun => reply_run(reply, station, m, k, area, start, count),
         Action::AxisStatus => {
             let pattern = digits::number(rest) as u8;
-            let records = axes.records;
-            reply_axes(reply, station, m, pattern & settings.fitted, records)
+            let shown = pattern & settings.fitted;
+            reply_axes(reply, station, m, shown, records_of(axes))
         }
         Action::WritePoints => reply_head(reply, station, m, start, count),
         Action::ClearRun => reply_head(reply, station, m, start, count),
@@ -118,18 +118,10 @@ fn store(order: Order, frame: &[u8], area: &mut [u8], journal: &mut [u8], used: 
 fn is_write(does: Action) -> bool
     ensures { result ≡ writes does }
 {
-    match does {
-        Action::SayBack => false,
-        Action::CountPoints => false,
-        Action::ListPoints => false,
-        Action::ReadRun => false,
-        Action::AxisStatus => false,
-        Action::WritePoints => true,
-        Action::ClearRun => true,
-        Action::ChangeRun => true,
-        Action::ShowFlags => false,
-        Action::SetFlag => true,
-    }
+    matches!(
+        does,
+        Action::WritePoints | Action::ClearRun | Action::ChangeRun | Action::SetFlag
+    )
 }
 
 // How many effective slots a write names: those of its run as they stand; a query, or a write of another kind, names none.
@@ -138,12 +130,11 @@ fn count_named(order: Order, area: &[u8]) -> usize
     ensures { result ≡ count_named order area.now }
 {
     let m = order.message;
-    let held = order.held;
-    let does = m.does;
-    if !is_write(does) {
+    if !is_write(m.does) {
         return 0;
     }
-    count_run(area, held.kind(m.tag), order.start, order.count)
+    let k = order.held.kind(m.tag);
+    count_run(area, k, order.start, order.count)
 }
 
 // An order carried out: what the message says, then what it stores; the count that is kept is without the slots that were named, and with them as they

@@ -14,10 +14,10 @@ use Rattle.frames.specs.Frame.{content_in, shaped, sum_said, is_off, is_wrong, s
 use Rattle.messages.specs.Rows.{◌when◌, first_of}
 use Rattle.table.specs.Table.{message_of}
 use Rattle.messages.specs.Asked.{asked_rows}
-use Rattle.axes.specs.declared.Axes.{Axes}
+use Rattle.axes.specs.Records.{Axes}
 use Rattle.calls.specs.declared.Settings.{Settings}
 use Rattle.calls.specs.declared.Kept.{Kept}
-use Rattle.calls.specs.declared.Told.TheVariants.{Untested, Said}
+use Rattle.std.specs.Prelude.{None, Some}
 use Rattle.kinds.specs.declared.Lengths.{Lengths}
 use Rattle.kinds.specs.Kinds.{held_in}
 use Rattle.calls.specs.Calls.{Call, lengths_of}
@@ -390,11 +390,11 @@ module _ (settings : Settings) (frame points : List ℕ) (kept : Kept) where
   late_by_lem s e = late_rows_lem settings frame points kept ∙ rw (← e)
 
 -- what is told, by the refusal before the sum
-pub told_untested : {n : ℕ} (release : ℕ) (frame : List ℕ) → (n ≡ 0 → ⊥) → told_after n release frame ≡ Untested
+pub told_untested : {n : ℕ} (release : ℕ) (frame : List ℕ) → (n ≡ 0 → ⊥) → told_after n release frame ≡ None
 unfolding told_after
 told_untested {n} release frame h = rw (ne_eqb n 0 h)
 
-pub told_said : {n : ℕ} (release : ℕ) (frame : List ℕ) → n ≡ 0 → told_after n release frame ≡ Said (sum_said release frame)
+pub told_said : {n : ℕ} (release : ℕ) (frame : List ℕ) → n ≡ 0 → told_after n release frame ≡ Some (sum_said release frame)
 unfolding told_after
 told_said {n} release frame h = rw (eq-eqb n 0 h)
 
@@ -406,10 +406,10 @@ early_0_of c e =
     (call_passed c e).early
     0
 
-pub heard_told : (c : Call) → silent_of c ≡ 0 → told_of c ≡ Said (sum_said c.sent.settings.release c.sent.frame)
+pub heard_told : (c : Call) → silent_of c ≡ 0 → told_of c ≡ Some (sum_said c.sent.settings.release c.sent.frame)
 heard_told c e = told_said c.sent.settings.release c.sent.frame (early_0_of c e)
 
 -- and it is told alike of frames that the tests before it and the sum test find alike
 pub same_told_after : {n n' : ℕ} (release : ℕ) (f f' : List ℕ) → n ≡ n' → sum_said release f ≡ sum_said release f' → told_after n release f ≡ told_after n' release f'
 unfolding told_after
-same_told_after release f f' e s = ap₂ (λ (k : ℕ) (w : Sum). cond (eqb k 0) (Said w) Untested) e s
+same_told_after release f f' e s = ap₂ (λ (k : ℕ) (w : Sum). cond (eqb k 0) (Some w) None) e s

@@ -26,8 +26,8 @@ use Rattle.slots.proofs.Counted.{effective_most}
 use Rattle.table.specs.declared.Action.{Action}
 use Rattle.table.specs.declared.Action.TheVariants.{SayBack, CountPoints, ListPoints, ReadRun, AxisStatus, WritePoints, ClearRun, ChangeRun, ShowFlags, SetFlag}
 use Rattle.table.specs.declared.Message.{Message}
-use Rattle.table.specs.declared.Named.{Named}
-use Rattle.table.specs.declared.Named.TheVariants.{Known, Unknown}
+use Rattle.std.specs.Prelude.{Option}
+use Rattle.std.specs.Prelude.{Some, None}
 use Rattle.table.specs.Table.{messages, named_in, message_numbered, message_of}
 use Rattle.messages.proofs.Shapes.{Each}
 use Rattle.refusals.specs.Refusals.{points_fit, variables_fit, least_journal, journal_fits, records_fit, count_true, count_fits, miscounted}
@@ -127,9 +127,9 @@ journal_fits_lem held j used e =
     }
 
 -- a true count fits with any frame
-pub true_fits : (n : Named) (points : List ℕ) (effective : ℕ) → effective ≡ effective_in (length points / 40) points → miscounted n points effective ≡ false
-true_fits Unknown points effective e = refl
-true_fits (Known m) points effective e = ap not (go m.does)
+pub true_fits : (n : Option Message) (points : List ℕ) (effective : ℕ) → effective ≡ effective_in (length points / 40) points → miscounted n points effective ≡ false
+true_fits None points effective e = refl
+true_fits (Some m) points effective e = ap not (go m.does)
   where
     go : (a : Action) → count_fits a points effective ≡ true
     go SayBack = refl
@@ -149,7 +149,7 @@ module _ (id : ℕ) (points : List ℕ) (effective : ℕ) where
       → miscounted (named_in id ms) points effective ≡ false
   fits_in [] h = refl
   fits_in (m ∷ ms) h =
-      either (λ (n : Named). miscounted n points effective ≡ false) (eqb id m.id) (λ e. h.0 (sym (eqb-true _ _ e))) (λ _. fits_in ms h.1)
+      either (λ (n : Option Message). miscounted n points effective ≡ false) (eqb id m.id) (λ e. h.0 (sym (eqb-true _ _ e))) (λ _. fits_in ms h.1)
 
   pub other_fits : (id ≡ 0x244 → ⊥) → (id ≡ 0x246 → ⊥) → (id ≡ 0x208 → ⊥) → miscounted (message_numbered id) points effective ≡ false
   unfolding message_numbered

@@ -7,18 +7,20 @@ use Rattle.kinds.specs.Kinds.{held_in}
 use Rattle.journal.specs.Journal.{whole}
 use Rattle.points.specs.Point.{effective_in}
 use Rattle.axes.specs.declared.AxisRecord.{AxisRecord}
-use Rattle.axes.specs.declared.Axes.{Axes}
+use Rattle.axes.specs.Records.{Axes}
 use Rattle.messages.specs.Rows.{Row, ◌when◌, first_of}
 use Rattle.table.specs.declared.Action.{Action}
 use Rattle.table.specs.declared.Action.TheVariants.{SayBack, CountPoints, ListPoints, ReadRun, AxisStatus, WritePoints, ClearRun, ChangeRun, ShowFlags, SetFlag}
-use Rattle.table.specs.declared.Named.{Named}
-use Rattle.table.specs.declared.Named.TheVariants.{Known, Unknown}
+use Rattle.std.specs.Prelude.{Option}
+use Rattle.table.specs.declared.Message.{Message}
+use Rattle.std.specs.Prelude.{Some, None}
 use Rattle.table.specs.Table.{message_of}
 use Rattle.messages.specs.Asked.{asked_rows}
 use Rattle.calls.specs.declared.Settings.{Settings}
 use Rattle.calls.specs.declared.Kept.{Kept}
-use Rattle.calls.specs.declared.Told.{Told}
-use Rattle.calls.specs.declared.Told.TheVariants.{Untested, Said}
+use Rattle.std.specs.Prelude.{Option}
+use Rattle.frames.specs.declared.checks.Sum.{Sum}
+use Rattle.std.specs.Prelude.{None, Some}
 use Rattle.kinds.specs.declared.Lengths.{Lengths}
 use Rattle.kinds.specs.declared.Firsts.{Firsts}
 use Rattle.calls.specs.Calls.{Areas, Call, lengths_of}
@@ -53,7 +55,8 @@ records_fit [] = true
 records_fit (r ∷ records) = leb r.sensor 15 && (leb r.error 4095 && records_fit records)
 
 unfoldable pub axes_fit : Axes → ℕ → Bool
-axes_fit axes fitted = axes.eight && (records_fit axes.records && not (eqb fitted 0))
+axes_fit None fitted = false
+axes_fit (Some records) fitted = records_fit records && not (eqb fitted 0)
 
 -- 13: not "a setting other than 1 or 2" (02, l)
 unfoldable pub release_fits : ℕ → Bool
@@ -77,9 +80,9 @@ count_fits ShowFlags points effective = true
 count_fits SetFlag points effective = true
 
 -- 11 of a frame, by its ID alone
-abbrev pub miscounted : Named → List ℕ → ℕ → Bool
-miscounted Unknown points effective = false
-miscounted (Known m) points effective = not (count_fits m.does points effective)
+abbrev pub miscounted : Option Message → List ℕ → ℕ → Bool
+miscounted None points effective = false
+miscounted (Some m) points effective = not (count_fits m.does points effective)
 
 -- 2, 3, 10 ("tested after 3", 02, a) and 4: the areas, of a frame and of a step back
 unfoldable pub area_rows : Lengths → List ℕ → Kept → List Row
@@ -135,17 +138,17 @@ unfoldable pub silent_of : Call → ℕ
 silent_of c = first_of (silent c)
 
 -- "The answer to a frame says which it was, also where a later refusal follows, or that an earlier one left it untested." (02, f)
-unfoldable pub told_after : ℕ → ℕ → List ℕ → Told
-told_after earlier release frame = cond (eqb earlier 0) (Said (sum_said release frame)) Untested
+unfoldable pub told_after : ℕ → ℕ → List ℕ → Option Sum
+told_after earlier release frame = cond (eqb earlier 0) (Some (sum_said release frame)) None
 
-abbrev pub told_of : Call → Told
+abbrev pub told_of : Call → Option Sum
 told_of c = told_after (first_of (early c)) c.sent.settings.release c.sent.frame
 
 -- of a check, whatever the reply area: its refusal without a reply, and what it tells of the sum (02, g)
 unfoldable pub check_silent_of : Call → ℕ
 check_silent_of c = first_of (check_early c ++ late c)
 
-abbrev pub check_told_of : Call → Told
+abbrev pub check_told_of : Call → Option Sum
 check_told_of c = told_after (first_of (check_early c)) c.sent.settings.release c.sent.frame
 
 -- a frame's refusal: 1 to 8 and 10 to 13, then 101 to 108

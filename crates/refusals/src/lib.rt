@@ -6,36 +6,32 @@ ghost use Rattle.std.specs.Prelude.{◌≡◌, true, cond, not, ◌++◌, ◌≤
 ghost use Rattle.frames.specs.Frame.{sum_said};
 ghost use Rattle.kinds.specs.Kinds.{Sound};
 ghost use Rattle.table.specs.Table.{message_numbered, message_of};
+ghost use Rattle.messages.specs.Refusal.{number_by};
 ghost use Rattle.messages.specs.Rows.{first_of};
 ghost use Rattle.refusals.specs.Refusals.{points_fit, variables_fit, journal_fits, records_fit, axes_fit, release_fits, count_true, miscounted, area_rows, check_rows, rows_from_sum, told_after, back_rows};
 
 use axes::{Axes, AxisRecord};
-use calls::{Kept, Settings, Told};
-use digits::Field;
+use calls::{Kept, Settings};
 use frames::checks::{Sum, is_ours, is_shaped, test_sum};
 use journal::is_whole;
 use kinds::{Firsts, Held, Lengths, held_in};
+use messages::refusal::Refusal;
 use points::point::Point;
 use slots::count_effective;
 
-// What a frame's tests before its message say: the refusal without a reply, or 0, and what is told of the sum.
+// What a frame's tests before its message say: passed or refused without a reply, and what is told of the sum.
 #[derive(Clone, Copy)]
 pub struct Hearing {
-    pub number: u16,
-    pub sum: Told,
+    pub passed: Result<(), Refusal>,
+    pub sum: Option<Sum>,
 }
 
 // Refusal 2, passed: a multiple of 40 from 40 to 60,000.
+#[tactic(auto, unfolding(crate::specs::Refusals::points_fit))]
 fn fits_points(points: usize) -> bool
     ensures { result ≡ points_fit points }
 {
-    if points % Point::SLOT != 0 {
-        return false;
-    }
-    if points < Point::SLOT {
-        return false;
-    }
-    points <= 60000
+    points % Point::SLOT == 0 && Point::SLOT <= points && points <= 60000
 }
 
 // Refusal 10, passed: 400 bytes of integers, 300 of flags, and last numbers that fit into their fields.
@@ -43,88 +39,68 @@ fn fits_points(points: usize) -> bool
 fn fits_variables(integers: usize, flags: usize, firsts: Firsts) -> bool
     ensures { result ≡ variables_fit integers flags firsts }
 {
-    if integers != 400 {
-        return false;
-    }
-    if flags != 300 {
-        return false;
-    }
-    if firsts.integer as usize + 99 > 0xFFF {
-        return false;
-    }
-    firsts.flag as usize + 299 <= 0xFFFF
+    integers == 400
+        && flags == 300
+        && usize::from(firsts.integer) + 99 <= 0xFFF
+        && usize::from(firsts.flag) + 299 <= 0xFFFF
 }
 
 // Refusal 4, passed: the journal's length, the used length, and whole well-formed entries.
+#[tactic(auto, unfolding(crate::specs::Refusals::journal_fits))]
 fn fits_journal(journal: &[u8], used: usize, held: Held) -> bool
     requires { Sound held }
     ensures { result ≡ journal_fits held journal.now used }
 {
-    if journal.len() < 40 * held.points + 500 {
-        return false;
-    }
-    if journal.len() > 65536 {
-        return false;
-    }
-    if used > journal.len() {
-        return false;
-    }
-    is_whole(&journal[..used], held)
+    40 * held.points + 500 <= journal.len()
+        && journal.len() <= 65536
+        && used <= journal.len()
+        && is_whole(&journal[..used], held)
 }
 
+// A sensor is 0 to 15, an error code 0 to 4,095.
 fn fits_records(records: [AxisRecord; 8]) -> bool
     ensures { result ≡ records_fit records }
 {
-    let mut i = 0;
-    while i < 8 {
-        let record = records[i];
-        if record.sensor > 15 {
+    for record in records {
+        if record.sensor > 15 || record.error > 4095 {
             return false;
         }
-        if record.error > 4095 {
-            return false;
-        }
-        i += 1;
     }
     true
 }
 
 // Refusal 5, passed: eight records, no sensor or error code too large, a fitted axis.
+#[tactic(auto, unfolding(crate::specs::Refusals::axes_fit))]
 fn fits_axes(axes: Axes, fitted: u8) -> bool
     ensures { result ≡ axes_fit axes fitted }
 {
-    let eight = axes.eight;
-    let records = axes.records;
-    if !eight {
-        return false;
+    match axes {
+        Some(records) => fits_records(records) && fitted != 0,
+        None => false,
     }
-    if !fits_records(records) {
-        return false;
-    }
-    fitted != 0
 }
 
-// Tests 2, 3, 10 and 4, of a frame and of a step back: the refusal, or 0.
-fn area_refusal(lengths: Lengths, journal: &[u8], kept: Kept) -> u16
-    ensures { result ≡ first_of (area_rows lengths journal.now kept) }
+// Tests 2, 3, 10 and 4, of a frame and of a step back.
+fn test_areas(lengths: Lengths, journal: &[u8], kept: Kept) -> Result<(), Refusal>
+    ensures { number_by result ≡ first_of (area_rows lengths journal.now kept) }
 {
     if !fits_points(lengths.points) {
-        return 2;
+        return Err(Refusal::PointsArea);
     }
     if lengths.columns != 700 {
-        return 3;
+        return Err(Refusal::ColumnsArea);
     }
-    let firsts = lengths.firsts;
-    if !fits_variables(lengths.integers, lengths.flags, firsts) {
-        return 10;
+    if !fits_variables(lengths.integers, lengths.flags, lengths.firsts) {
+        return Err(Refusal::VariableAreas);
     }
     if !fits_journal(journal, kept.used, held_in(lengths)) {
-        return 4;
+        return Err(Refusal::JournalArea);
     }
-    0
+    Ok(())
 }
 
 // Refusal 13, passed: release 1 or 2.
+#[tactic(auto, unfolding(crate::specs::Refusals::release_fits))]
 fn fits_release(release: u8) -> bool
     ensures { result ≡ release_fits release }
 {
@@ -140,86 +116,77 @@ fn is_count_true(points: &[u8], effective: usize) -> bool
 }
 
 // Refusal 11, passed, by an ID: 244H and 246H need a true count, 208H one that isn't above N, and no other message looks at it.
+#[tactic(auto, unfolding(table::specs::Table::message_numbered))]
 fn fits_count(id: u64, points: &[u8], effective: usize) -> bool
     requires { points_fit (length points.now) ≡ true }
     ensures { result ≡ not (miscounted (message_numbered id) points.now effective) }
 {
-    if id == 0x244 || id == 0x246 {
-        return is_count_true(points, effective);
-    }
-    if id == 0x208 {
-        return effective <= points.len() / Point::SLOT;
-    }
-    true
-}
-
-// Test 11, by the frame's ID: the refusal, or 0.
-fn count_refusal(release: u8, frame: &[u8], points: &[u8], effective: usize) -> u16
-    requires { (10 ≤ length frame.now) × (points_fit (length points.now) ≡ true) }
-    ensures { result ≡ cond (miscounted (message_of release frame.now) points.now effective) 11 0 }
-{
-    let id = digits::read_field(release, &frame[3..6]);
     match id {
-        Field::NotDigits => 0,
-        Field::Number(k) => {
-            if !fits_count(k, points, effective) {
-                return 11;
-            }
-            0
-        }
+        0x244 | 0x246 => is_count_true(points, effective),
+        0x208 => effective <= points.len() / Point::SLOT,
+        _ => true,
     }
 }
 
-// Tests 12, 7 and 8, by what the sum test said, and 11: the refusal, or 0.
-fn late_refusal(sum: Sum, settings: Settings, frame: &[u8], points: &[u8], kept: Kept) -> u16
+// Test 11, by the frame's ID.
+fn test_count(release: u8, frame: &[u8], points: &[u8], effective: usize) -> Result<(), Refusal>
+    requires { (10 ≤ length frame.now) × (points_fit (length points.now) ≡ true) }
+    ensures { number_by result ≡ cond (miscounted (message_of release frame.now) points.now effective) 11 0 }
+{
+    match digits::read_field(release, &frame[3..6]) {
+        Some(id) if !fits_count(id, points, effective) => Err(Refusal::KeptCount),
+        _ => Ok(()),
+    }
+}
+
+// Tests 12, 7 and 8, by what the sum test said, and 11.
+fn test_late(
+    sum: Sum,
+    settings: Settings,
+    frame: &[u8],
+    points: &[u8],
+    kept: Kept,
+) -> Result<(), Refusal>
     requires { (10 ≤ length frame.now) × (sum ≡ sum_said settings.release frame.now) × (points_fit (length points.now) ≡ true) }
-    ensures { result ≡ first_of (rows_from_sum settings frame.now points.now kept) }
+    ensures { number_by result ≡ first_of (rows_from_sum settings frame.now points.now kept) }
 {
     match sum {
         Sum::True => {}
-        Sum::SwitchedOff => {
-            if !settings.unchecked {
-                return 12;
-            }
-        }
-        Sum::Wrong => {
-            return 7;
-        }
+        Sum::SwitchedOff if settings.unchecked => {}
+        Sum::SwitchedOff => return Err(Refusal::SumSwitchedOff),
+        Sum::Wrong => return Err(Refusal::WrongSum),
     }
     if !is_ours(settings.release, settings.station, frame) {
-        return 8;
+        return Err(Refusal::OtherStation);
     }
-    count_refusal(settings.release, frame, points, kept.effective)
+    test_count(settings.release, frame, points, kept.effective)
 }
 
-// Tests 2 to 6, 10 and 13: the refusal, or 0.
-fn early_refusal(
+// Tests 2 to 6, 10 and 13.
+fn test_early(
     frame: &[u8],
     axes: Axes,
     settings: Settings,
     lengths: Lengths,
     journal: &[u8],
     kept: Kept,
-) -> u16
-    ensures { result ≡ first_of (check_rows frame.now axes settings lengths journal.now kept) }
+) -> Result<(), Refusal>
+    ensures { number_by result ≡ first_of (check_rows frame.now axes settings lengths journal.now kept) }
 {
-    let number = area_refusal(lengths, journal, kept);
-    if number != 0 {
-        return number;
-    }
+    test_areas(lengths, journal, kept)?;
     if !fits_axes(axes, settings.fitted) {
-        return 5;
+        return Err(Refusal::AxisRecords);
     }
     if !fits_release(settings.release) {
-        return 13;
+        return Err(Refusal::Release);
     }
     if !is_shaped(frame) {
-        return 6;
+        return Err(Refusal::Shape);
     }
-    0
+    Ok(())
 }
 
-// The refusal without a reply, 2 to 8 or 10 to 13, or 0, and what is told of the sum; 1 is tested where there is a reply area, before all this.
+// Whether the refusals without a reply are passed, 2 to 8 and 10 to 13, and what is told of the sum; 1 is tested where there is a reply area, before all this.
 pub fn silent(
     frame: &[u8],
     axes: Axes,
@@ -230,41 +197,42 @@ pub fn silent(
     kept: Kept,
 ) -> Hearing
     requires { lengths.points ≡ length points.now }
-    ensures number_value { result.number
+    ensures number_value { number_by result.passed
         ≡ first_of (check_rows frame.now axes settings lengths journal.now kept
         ++ rows_from_sum settings frame.now points.now kept) }
     ensures sum_value { result.sum
         ≡ told_after (first_of (check_rows frame.now axes settings lengths journal.now kept)) settings.release frame.now }
 {
-    let number = early_refusal(frame, axes, settings, lengths, journal, kept);
-    if number != 0 {
+    if let Err(refusal) = test_early(frame, axes, settings, lengths, journal, kept) {
         return Hearing {
-            number,
-            sum: Told::Untested,
+            passed: Err(refusal),
+            sum: None,
         };
     }
     let sum = test_sum(settings.release, frame);
     Hearing {
-        number: late_refusal(sum, settings, frame, points, kept),
-        sum: Told::Said(sum),
+        passed: test_late(sum, settings, frame, points, kept),
+        sum: Some(sum),
     }
 }
 
-// The step back's refusal: 2, 3, 10, 4, 11, then 9, or 0.
+// The step back's tests: 2, 3, 10, 4, 11, then 9.
 #[tactic(auto, using(crate::proofs::Rows::back_9))]
-pub fn back_refusal(lengths: Lengths, points: &[u8], journal: &[u8], kept: Kept) -> u16
+pub fn back_refusal(
+    lengths: Lengths,
+    points: &[u8],
+    journal: &[u8],
+    kept: Kept,
+) -> Result<(), Refusal>
     requires { lengths.points ≡ length points.now }
-    ensures { result ≡ first_of (back_rows lengths points.now journal.now kept) }
+    ensures { number_by result ≡ first_of (back_rows lengths points.now journal.now kept) }
 {
-    let number = area_refusal(lengths, journal, kept);
-    if number != 0 {
-        return number;
-    }
+    test_areas(lengths, journal, kept)?;
     if !is_count_true(points, kept.effective) {
-        return 11;
+        return Err(Refusal::KeptCount);
     }
     if kept.used == 0 {
-        return 9;
+        return Err(Refusal::NothingToStepBack);
     }
-    0
+    Ok(())
 }

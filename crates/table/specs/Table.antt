@@ -12,8 +12,8 @@ use Rattle.table.specs.declared.Follows.TheVariants.{Nothing, TenBytes, AxisPatt
 use Rattle.table.specs.declared.Action.{Action}
 use Rattle.table.specs.declared.Action.TheVariants.{SayBack, CountPoints, ListPoints, ReadRun, AxisStatus, WritePoints, ClearRun, ChangeRun, ShowFlags, SetFlag}
 use Rattle.table.specs.declared.Message.{Message}
-use Rattle.table.specs.declared.Named.{Named}
-use Rattle.table.specs.declared.Named.TheVariants.{Known, Unknown}
+use Rattle.std.specs.Prelude.{Option}
+use Rattle.std.specs.Prelude.{Some, None}
 
 -- a row: ID; how many digits program number, start number and count have, 0 where it has none; the tag of the kind that it asks of, 0 where it asks of none; what follows
 -- these fields; what it has the board do; whether the reply repeats the fields
@@ -40,16 +40,16 @@ messages =
     ∷ []
 
 -- "Any other message is unknown to it."
-abbrev pub named_in : ℕ → List Message → Named
-named_in id [] = Unknown
-named_in id (m ∷ ms) = cond (eqb id m.id) (Known m) (named_in id ms)
+abbrev pub named_in : ℕ → List Message → Option Message
+named_in id [] = None
+named_in id (m ∷ ms) = cond (eqb id m.id) (Some m) (named_in id ms)
 
-unfoldable pub message_numbered : ℕ → Named
+unfoldable pub message_numbered : ℕ → Option Message
 message_numbered id = named_in id messages
 
 -- the message of a frame, its ID in the digits that a release admits (02, l)
-unfoldable pub message_of : ℕ → List ℕ → Named
-message_of release frame = cond (admitted release (message_in frame)) (message_numbered (number_of (message_in frame))) Unknown
+unfoldable pub message_of : ℕ → List ℕ → Option Message
+message_of release frame = cond (admitted release (message_in frame)) (message_numbered (number_of (message_in frame))) None
 
 -- the fields of a content, and what follows them
 abbrev pub fields_of : Message → ℕ

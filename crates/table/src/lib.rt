@@ -1,11 +1,14 @@
 // The messages that the board answers, a row each (document 01, "What the board answers" and "Each message"; document 02, a).
 #![tactic(auto)]
 
-ghost use Rattle.std.specs.Prelude.{◌≡◌, false};
-ghost use Rattle.kinds.specs.Kinds.{points_tag, flags_tag};
-ghost use Rattle.table.specs.declared.Named.TheVariants.{Known};
+ghost use Rattle.std.specs.Prelude.{◌≡◌};
 ghost use Rattle.table.specs.Table.{row, message_numbered};
 
+use crate::Action::{
+    AxisStatus, ChangeRun, ClearRun, CountPoints, ListPoints, ReadRun, SayBack, SetFlag, ShowFlags,
+    WritePoints,
+};
+use crate::Follows::{AxisPattern, ChangeType, Nothing, Points, RunBytes, TenBytes};
 use kinds::Kind;
 
 // What follows the fields of a content.
@@ -48,122 +51,50 @@ pub struct Message {
     pub repeats: bool,
 }
 
-// The message of an ID.
-#[derive(Clone, Copy)]
-pub enum Named {
-    Known { message: Message },
-    Unknown,
-}
-
-// A message that names no run: it has no fields.
-fn plain(id: u16, tag: u8, follows: Follows, does: Action) -> Named
-    ensures { result ≡ Known (row id 0 0 0 tag follows does false) }
+// A row of the table, as it is written there.
+fn row(
+    id: u16,
+    program: usize,
+    start: usize,
+    count: usize,
+    tag: u8,
+    follows: Follows,
+    does: Action,
+    repeats: bool,
+) -> Message
+    ensures { result ≡ row id program start count tag follows does repeats }
 {
-    let message = Message {
+    Message {
         id,
-        program: 0,
-        start: 0,
-        count: 0,
-        tag,
-        follows,
-        does,
-        repeats: false,
-    };
-    Named::Known { message }
-}
-
-// A message of points: start 3, count 3.
-fn of_points(id: u16, follows: Follows, does: Action, repeats: bool) -> Named
-    ensures { result ≡ Known (row id 0 3 3 points_tag follows does repeats) }
-{
-    let message = Message {
-        id,
-        program: 0,
-        start: 3,
-        count: 3,
-        tag: Kind::POINTS,
-        follows,
-        does,
-        repeats,
-    };
-    Named::Known { message }
-}
-
-// A message of a run of variables: program 2, start 3, count 2.
-fn of_run(id: u16, tag: u8, follows: Follows, does: Action, repeats: bool) -> Named
-    ensures { result ≡ Known (row id 2 3 2 tag follows does repeats) }
-{
-    let message = Message {
-        id,
-        program: 2,
-        start: 3,
-        count: 2,
-        tag,
-        follows,
-        does,
-        repeats,
-    };
-    Named::Known { message }
-}
-
-// A message of flags: program 2, start 4, and a count of so many digits.
-fn of_flags(id: u16, count: usize, follows: Follows, does: Action, repeats: bool) -> Named
-    ensures { result ≡ Known (row id 2 4 count flags_tag follows does repeats) }
-{
-    let message = Message {
-        id,
-        program: 2,
-        start: 4,
+        program,
+        start,
         count,
-        tag: Kind::FLAGS,
+        tag,
         follows,
         does,
         repeats,
-    };
-    Named::Known { message }
+    }
 }
 
-// The message of an ID: the table.
-pub fn numbered(id: u64) -> Named
+// The message of an ID: the table; any other message is unknown.
+#[tactic(auto, unfolding(crate::specs::Table::message_numbered))]
+pub fn numbered(id: u64) -> Option<Message>
     ensures { result ≡ message_numbered id }
 {
-    match id {
-        0x200 => plain(0x200, 0, Follows::TenBytes, Action::SayBack),
-        0x208 => plain(0x208, Kind::POINTS, Follows::Nothing, Action::CountPoints),
-        0x209 => of_points(0x209, Follows::Nothing, Action::ListPoints, false),
-        0x20d => of_flags(0x20d, 4, Follows::Nothing, Action::ShowFlags, true),
-        0x20e => of_run(
-            0x20e,
-            Kind::INTEGERS,
-            Follows::Nothing,
-            Action::ReadRun,
-            true,
-        ),
-        0x210 => of_run(
-            0x210,
-            Kind::COLUMNS,
-            Follows::Nothing,
-            Action::ReadRun,
-            true,
-        ),
-        0x212 => plain(0x212, 0, Follows::AxisPattern, Action::AxisStatus),
-        0x244 => of_points(0x244, Follows::Points, Action::WritePoints, true),
-        0x246 => of_points(0x246, Follows::Nothing, Action::ClearRun, false),
-        0x24b => of_flags(0x24b, 0, Follows::ChangeType, Action::SetFlag, false),
-        0x24c => of_run(
-            0x24c,
-            Kind::INTEGERS,
-            Follows::RunBytes,
-            Action::ChangeRun,
-            true,
-        ),
-        0x24e => of_run(
-            0x24e,
-            Kind::COLUMNS,
-            Follows::RunBytes,
-            Action::ChangeRun,
-            false,
-        ),
-        _ => Named::Unknown,
-    }
+    let message = match id {
+        0x200 => row(0x200, 0, 0, 0, 0, TenBytes, SayBack, false),
+        0x208 => row(0x208, 0, 0, 0, Kind::POINTS, Nothing, CountPoints, false),
+        0x209 => row(0x209, 0, 3, 3, Kind::POINTS, Nothing, ListPoints, false),
+        0x20d => row(0x20d, 2, 4, 4, Kind::FLAGS, Nothing, ShowFlags, true),
+        0x20e => row(0x20e, 2, 3, 2, Kind::INTEGERS, Nothing, ReadRun, true),
+        0x210 => row(0x210, 2, 3, 2, Kind::COLUMNS, Nothing, ReadRun, true),
+        0x212 => row(0x212, 0, 0, 0, 0, AxisPattern, AxisStatus, false),
+        0x244 => row(0x244, 0, 3, 3, Kind::POINTS, Points, WritePoints, true),
+        0x246 => row(0x246, 0, 3, 3, Kind::POINTS, Nothing, ClearRun, false),
+        0x24b => row(0x24b, 2, 4, 0, Kind::FLAGS, ChangeType, SetFlag, false),
+        0x24c => row(0x24c, 2, 3, 2, Kind::INTEGERS, RunBytes, ChangeRun, true),
+        0x24e => row(0x24e, 2, 3, 2, Kind::COLUMNS, RunBytes, ChangeRun, false),
+        _ => return None,
+    };
+    Some(message)
 }

@@ -12,7 +12,7 @@ use Rattle.calls.specs.Calls.{Areas, Sent, area_in}
 use Rattle.refusals.specs.Refusals.{refusal_of}
 use Rattle.link.specs.Answer.{held, asked}
 use Rattle.table.specs.declared.Message.{Message}
-use Rattle.table.specs.declared.Named.TheVariants.{Known}
+use Rattle.std.specs.Prelude.{Some}
 use Rattle.table.specs.Table.{message_of}
 use Rattle.demands.specs.Refused.{asks_write}
 use Rattle.demands.specs.Survive.{Accepted}
@@ -77,10 +77,10 @@ record Told : Type 0 where
   second_accepted : accepted_write forgets once clear_one ≡ true
   two_refused : refusal_of (call_on smallest two_points) ≡ 0
   two_asked : asks_write (asked (call_on smallest two_points)) ≡ true
-  two_known : message_of 1 two_points.frame ≡ Known writing
+  two_known : message_of 1 two_points.frame ≡ Some writing
   integers_refused : refusal_of (call_on smallest two_integers) ≡ 0
   integers_asked : asks_write (asked (call_on smallest two_integers)) ≡ true
-  integers_known : message_of 1 two_integers.frame ≡ Known changing_integers
+  integers_known : message_of 1 two_integers.frame ≡ Some changing_integers
   second_before : (get_or (behind_first writing (call_on smallest two_points) smallest) 0 0 ≡ 0)
       × (get_or (behind_first changing_integers (call_on smallest two_integers) smallest) 3 0 ≡ 0)
   first_due : get_or (account (holding 2) smallest (two_points ∷ [])).points 0 0 ≡ 1

@@ -8,7 +8,7 @@ use lib.ListN.{get_or, replicate}
 use Rattle.digits.specs.Text.{text}
 use Rattle.journal.specs.Journal.{entry_for}
 use Rattle.kinds.specs.Kinds.{points_tag}
-use Rattle.table.specs.declared.Named.TheVariants.{Known}
+use Rattle.std.specs.Prelude.{Some}
 use Rattle.table.specs.Table.{message_of}
 use Rattle.calls.specs.Calls.{Areas, Sent, Call, put_in}
 use Rattle.refusals.specs.Refusals.{refusal_of}
@@ -63,11 +63,11 @@ poll = handed 1 "!99208@@\r\n"
 
 record Told : Type 0 where
   over_refused : refusal_of over ≡ 0
-  over_known : message_of 1 over.sent.frame ≡ Known writing
+  over_known : message_of 1 over.sent.frame ≡ Some writing
   clear_refused : refusal_of clear ≡ 0
-  clear_known : message_of 1 clear.sent.frame ≡ Known clearing
+  clear_known : message_of 1 clear.sent.frame ≡ Some clearing
   poll_refused : refusal_of poll ≡ 0
-  poll_known : message_of 1 poll.sent.frame ≡ Known counting
+  poll_known : message_of 1 poll.sent.frame ≡ Some counting
 
 told : Told
 unfolding a_call

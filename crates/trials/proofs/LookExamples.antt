@@ -8,7 +8,7 @@ use lib.ListN.{length, get_or, replicate}
 use borrow.Author.Tests.{leb-true}
 use Rattle.kinds.specs.Kinds.{columns_tag, run_of}
 use Rattle.table.specs.declared.Message.{Message}
-use Rattle.table.specs.declared.Named.TheVariants.{Known}
+use Rattle.std.specs.Prelude.{Some}
 use Rattle.messages.specs.Shown.{names_run}
 use Rattle.calls.specs.Calls.{Areas, Call, Outcome, area_in, written, sum_code}
 use Rattle.orders.specs.Orders.{writes}
@@ -37,7 +37,7 @@ look_examples =
       check_met = λ c. record { number_is = refl; sum_is = refl; message_is = refl; start_is = refl; count_is = refl };
     }
 
-same_row : {r m : Message} → Known r ≡ Known m → r ≡ m
+same_row : {r m : Message} → Some r ≡ Some m → r ≡ m
 same_row e = cc
 
 -- frames that are shown with the bench's reply area, which is long enough

@@ -8,7 +8,7 @@ use Rattle.digits.specs.Text.{text}
 use Rattle.frames.specs.Frame.{normal, reply_of}
 use Rattle.points.specs.Axes.{axes_from, axes_of}
 use Rattle.points.specs.Point.{length_of}
-use Rattle.table.specs.declared.Named.TheVariants.{Known}
+use Rattle.std.specs.Prelude.{Some}
 use Rattle.table.specs.Table.{message_of}
 use Rattle.refusals.specs.Refusals.{refusal_of}
 use Rattle.link.specs.Answer.{answer_of}
@@ -24,7 +24,7 @@ host : Host code_call.sent
 unfolding a_call
 host = record { reply_long = omega arith; axes_fit_lem = refl; release_fits_lem = refl; station_byte = omega arith }
 
-many_known : message_of 1 many_call.sent.frame ≡ Known writing
+many_known : message_of 1 many_call.sent.frame ≡ Some writing
 unfolding a_call
 many_known = refl
 

@@ -22,9 +22,9 @@ use Rattle.pairs.specs.Pairs.{digits_in}
 use Rattle.journal.specs.Journal.{encodes, added}
 use Rattle.points.specs.Point.{effective_in}
 use Rattle.table.specs.declared.Message.{Message}
-use Rattle.table.specs.declared.Named.{Named}
-use Rattle.table.specs.declared.Named.TheVariants.{Known}
-use Rattle.messages.specs.declared.Asked.{Asked}
+use Rattle.std.specs.Prelude.{Option}
+use Rattle.std.specs.Prelude.{Some}
+use Rattle.messages.specs.Asked.{Asked}
 use Rattle.table.specs.Table.{message_numbered, message_of}
 use Rattle.calls.specs.declared.Kept.{Kept}
 use Rattle.calls.specs.Calls.{Areas, Call, Outcome, fresh, lengths_of, area_in}
@@ -83,15 +83,15 @@ record Told : Type 0 where
   none_number : (answer_of (count_on two)).number ≡ 0
   none_text : (answer_of (count_on two)).text ≡ text "#99208000BF\r\n"
   one_refused : refusal_of one_point ≡ 0
-  one_known : message_of 1 one_point.sent.frame ≡ Known writing
+  one_known : message_of 1 one_point.sent.frame ≡ Some writing
   two_refused : refusal_of two_points_lem ≡ 0
-  two_known : message_of 1 two_points_lem.sent.frame ≡ Known writing
+  two_known : message_of 1 two_points_lem.sent.frame ≡ Some writing
   none_refused : refusal_of no_point ≡ 0
-  none_known : message_of 1 no_point.sent.frame ≡ Known clearing
+  none_known : message_of 1 no_point.sent.frame ≡ Some clearing
   second_stored : get_or (behind_first writing two_points_lem (answer_of two_points_lem).areas) 0 0 ≡ 1
   second_before : get_or (behind_first writing two_points_lem two) 0 0 ≡ 0
   integers_refused : refusal_of two_integers_lem ≡ 0
-  integers_known : message_of 1 two_integers_lem.sent.frame ≡ Known changing_integers
+  integers_known : message_of 1 two_integers_lem.sent.frame ≡ Some changing_integers
   integer_stored : get_or (behind_first changing_integers two_integers_lem (answer_of two_integers_lem).areas) 3 0 ≡ 2
   integer_before : behind_first changing_integers two_integers_lem two ≡ replicate 4 0
   integers_said : (start_of changing_integers two_integers_lem.sent ≡ 200) × (count_of changing_integers two_integers_lem.sent ≡ 2) × (rest_of changing_integers two_integers_lem.sent ≡ text "0000000100000002")
@@ -170,7 +170,7 @@ is_taken c a = took a.message c a.known (frame_number c ∙ a.number)
 left_used : {id : ℕ} (c : Call) (a : Accepted id c) → writes a.message.does ≡ true → (answer_of c).areas.kept.used ≡ used_after c
 left_used c a w =
     ap (λ (x : Areas). x.kept.used) (areas_left a.message c (is_taken c a) true w)
-    ∙ ap (λ (n : Named). length (encodes (added (length c.areas.journal) (entries c.areas) (entry_said (held c) n (content c.sent) c.areas))))
+    ∙ ap (λ (n : Option Message). length (encodes (added (length c.areas.journal) (entries c.areas) (entry_said (held c) n (content c.sent) c.areas))))
     (sym a.known)
 
 -- so its count is the true one
@@ -367,7 +367,7 @@ module _ (m : Message) (c : Call) (t : Took m c) (w : writes m.does ≡ true) wh
       (omega (arith, (within k start 1 first_held).0))
       (rw (le-leb (start + 1) (suc start) (omega arith)))
 
-stays : (id : ℕ) (r : Message) → message_numbered id ≡ Known r → writes r.does ≡ true → StoresFirst id (stores_first id).answer
+stays : (id : ℕ) (r : Message) → message_numbered id ≡ Some r → writes r.does ≡ true → StoresFirst id (stores_first id).answer
 stays id r n w c a =
     let e = row_of c.sent id r a.known a.named n in
     subst (λ (x : ℕ). behind_first a.message c (first_only x c (asked c) (answer_of c)).areas ≡ behind_first a.message c c.areas) a.named

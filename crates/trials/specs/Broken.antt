@@ -4,10 +4,10 @@ use Prim.Native.String.{String}
 use Rattle.digits.specs.Text.{text}
 use Rattle.kinds.specs.Kinds.{points_tag, columns_tag, held_in}
 use Rattle.journal.specs.Journal.{added, entry_for}
-use Rattle.calls.specs.declared.Told.TheVariants.{Untested}
+use Rattle.std.specs.Prelude.{None}
 use Rattle.calls.specs.Calls.{Areas, Sent, Call, Outcome, fresh, lengths_of, put_in, old_entry, with_entries, unanswered}
-use Rattle.messages.specs.declared.Asked.{Asked}
-use Rattle.messages.specs.declared.Asked.TheVariants.{Refused, Order}
+use Rattle.messages.specs.Asked.{Asked}
+use Rattle.messages.specs.Asked.{Refused, Order}
 use Rattle.orders.specs.Orders.{writes}
 use Rattle.link.specs.Answer.{held, asked, answer_of}
 use Rattle.back.specs.Back.{back_of}
@@ -85,7 +85,7 @@ enters_new = record { answer = λ c. answer_of (call_on (with_entries (entries c
 
 -- a step back that also clears the columns
 abbrev pub clears : Conduct
-clears = record { answer = answer_of; back = λ a. unanswered Untested (back_of a).number (columns_all 0 (back_of a).areas) }
+clears = record { answer = answer_of; back = λ a. unanswered None (back_of a).number (columns_all 0 (back_of a).areas) }
 
 -- a refusal that writes
 abbrev pub refusal_writes : Conduct
@@ -103,7 +103,7 @@ forgets = record { answer = λ c. answer_of (call_on (with_entries [] c.areas) c
 
 -- a step back that takes nothing away
 abbrev pub takes_nothing : Conduct
-takes_nothing = record { answer = answer_of; back = λ a. unanswered Untested (back_of a).number a }
+takes_nothing = record { answer = answer_of; back = λ a. unanswered None (back_of a).number a }
 
 -- "demand 3 counts whole writes", whatever else a board does
 pub record NotWhole : Type 0 where

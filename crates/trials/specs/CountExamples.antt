@@ -8,10 +8,11 @@ use Rattle.frames.specs.Frame.{normal, reply_of}
 use Rattle.frames.specs.declared.checks.Sum.TheVariants.{True}
 use Rattle.kinds.specs.Kinds.{points_tag}
 use Rattle.journal.specs.Journal.{last_entry, entry_for}
-use Rattle.table.specs.declared.Named.{Named}
-use Rattle.table.specs.declared.Named.TheVariants.{Known, Unknown}
-use Rattle.messages.specs.declared.Asked.TheVariants.{Refused}
-use Rattle.calls.specs.declared.Told.TheVariants.{Untested, Said}
+use Rattle.std.specs.Prelude.{Option}
+use Rattle.table.specs.declared.Message.{Message}
+use Rattle.std.specs.Prelude.{Some, None}
+use Rattle.messages.specs.Asked.{Refused}
+use Rattle.std.specs.Prelude.{None, Some}
 use Rattle.calls.specs.Calls.{Areas, Sent, Call, Outcome, put_in, unanswered}
 use Rattle.link.specs.Answer.{held, answer_of}
 use Rattle.link.specs.Check.{check_of, act_of}
@@ -67,11 +68,11 @@ pub record CountExamples : Type 0 where
       × ((answer_of (handed 1 "!99246001001@@\r\n")).areas.kept.effective ≡ 1)
   -- after the station and the sum, which is told
   pub in_order : Number 1 "!9A246001001@@\r\n" 8 × Number 1 "!99246001001FF\r\n" 7
-      × (answer_of (handed 1 "!9924600100151\r\n") ≡ unanswered (Said True) 11 (counting 1 smallest))
+      × (answer_of (handed 1 "!9924600100151\r\n") ≡ unanswered (Some True) 11 (counting 1 smallest))
   -- a check gives it too
-  pub checked : check_of (handed 1 "!9924600100151\r\n") ≡ record { asked = Refused 11; sum = Said True }
+  pub checked : check_of (handed 1 "!9924600100151\r\n") ≡ record { asked = Refused 11; sum = Some True }
   -- a step back of any kind, before 9 and after 4
-  pub back : (back_of (counting 0 one) ≡ unanswered Untested 11 (counting 0 one)) × ((back_of (counting 2 (small ours (frame lot_code ∷ [])).areas)).number ≡ 11)
+  pub back : (back_of (counting 0 one) ≡ unanswered None 11 (counting 0 one)) × ((back_of (counting 2 (small ours (frame lot_code ∷ [])).areas)).number ≡ 11)
       × ((back_of (counting 1 smallest)).number ≡ 11) × ((back_of (handing_on (record { used = 1; effective = 1 }) smallest)).number ≡ 4)
 
 -- a board that hands on another count, after a frame and after a step back
@@ -85,9 +86,9 @@ abbrev pub when : ℕ → (Call → Outcome → Outcome) → Conduct
 when id change = honest_but (λ c o. cond (eqb o.number 0 && eqb (id_sent c) id) (change c o) o)
 
 -- how many numbers a frame names; an unknown message names none
-abbrev pub named : Sent → Named → ℕ
-named s Unknown = 0
-named s (Known m) = count_of m s
+abbrev pub named : Sent → Option Message → ℕ
+named s None = 0
+named s (Some m) = count_of m s
 
 abbrev pub many : Call → ℕ
 many c = named c.sent (message_by c.sent)
@@ -172,14 +173,14 @@ wipes_at_eleven = at_eleven 0x246 (λ c o. record { number = o.number; text = o.
 
 abbrev pub back_wipes : Conduct
 back_wipes =
-    record { answer = answer_of; back = λ a. cond (eqb (back_of a).number 11) (unanswered Untested 11 (cleared a)) (back_of a) }
+    record { answer = answer_of; back = λ a. cond (eqb (back_of a).number 11) (unanswered None 11 (cleared a)) (back_of a) }
 
 -- a step back with 9 before 11, and one that looks at the count for entries of points alone
 abbrev pub back_at_eleven : (Areas → Bool) → (Areas → Outcome) → Conduct
 back_at_eleven holds change = record { answer = answer_of; back = λ a. cond (eqb (back_of a).number 11 && holds a) (change a) (back_of a) }
 
 abbrev pub nine_first : Conduct
-nine_first = back_at_eleven (λ a. eqb a.kept.used 0) (unanswered Untested 9)
+nine_first = back_at_eleven (λ a. eqb a.kept.used 0) (unanswered None 9)
 
 abbrev pub points_alone : Conduct
 points_alone =

@@ -8,11 +8,13 @@ use Rattle.frames.specs.declared.checks.Sum.TheVariants.{True, SwitchedOff, Wron
 use Rattle.frames.specs.Frame.{content_in}
 use Rattle.kinds.specs.Kinds.{columns_tag}
 use Rattle.journal.specs.Journal.{entry_for}
-use Rattle.table.specs.declared.Named.{Named}
-use Rattle.table.specs.declared.Named.TheVariants.{Known, Unknown}
+use Rattle.std.specs.Prelude.{Option}
+use Rattle.table.specs.declared.Message.{Message}
+use Rattle.std.specs.Prelude.{Some, None}
 use Rattle.messages.specs.Asked.{not_held, number_given}
-use Rattle.calls.specs.declared.Told.{Told}
-use Rattle.calls.specs.declared.Told.TheVariants.{Untested, Said}
+use Rattle.std.specs.Prelude.{Option}
+use Rattle.frames.specs.declared.checks.Sum.{Sum}
+use Rattle.std.specs.Prelude.{None, Some}
 use Rattle.calls.specs.Calls.{Call, Outcome, fresh, put_in, with_entries, entries_of, sum_code, unanswered}
 use Rattle.refusals.specs.Refusals.{too_short}
 use Rattle.link.specs.Answer.{held, asked, text_of, areas_after, answer_of}
@@ -34,7 +36,7 @@ abbrev pub replying : ℕ → String → Call
 replying size f = replying_in (replicate size 0) (looked f)
 
 -- what a check says of it
-abbrev pub looks : ℕ → ℕ → ℕ → ℕ → Told → Look
+abbrev pub looks : ℕ → ℕ → ℕ → ℕ → Option Sum → Look
 looks number message start count told = record { shown = record { number = number; message = message; start = start; count = count }; sum = told }
 
 abbrev pub Says : String → Look → Type 0
@@ -42,10 +44,10 @@ Says f look = our_panel.check (looked f) ≡ look
 
 -- it would be done: this message, with this run
 abbrev pub Shows : String → ℕ → ℕ → ℕ → Type 0
-Shows f message start count = Says f (looks 0 message start count (Said SwitchedOff))
+Shows f message start count = Says f (looks 0 message start count (Some SwitchedOff))
 
 -- it is refused, by the check and by the act
-abbrev pub Refuses : String → ℕ → Told → Type 0
+abbrev pub Refuses : String → ℕ → Option Sum → Type 0
 Refuses f number told = Says f (looks number 0 0 0 told) × ((act_of (looked f)).number ≡ number)
 
 -- "write 45 points from 001", to a board of 46: each on axis 1, at 0.001 mm
@@ -69,16 +71,16 @@ pub record LookExamples : Type 0 where
       Shows "!992440020010100000000000000000001@@\r\n" 0x244 2 1 × Shows "!99246001002@@\r\n" 0x246 1 2 × Shows "!9924B00025F1@@\r\n" 0x24B 607 1
       × Shows "!9924C000C8020000000100000002@@\r\n" 0x24C 200 2 × Shows "!9924E0012C0430303437@@\r\n" 0x24E 300 4
   -- "write 45 points from 001", and that is done: 45 slots, and the 46th is as it was
-  pub forty_five_lem : our_panel.check forty_five ≡ looks 0 0x244 1 45 (Said SwitchedOff)
+  pub forty_five_lem : our_panel.check forty_five ≡ looks 0 0x244 1 45 (Some SwitchedOff)
   pub forty_five_slots : (act_of forty_five).areas.points ≡ times 45 one_slot ++ replicate 40 0
   -- refused frames: no message is shown; what the sum test said is told
-  pub silent : Refuses "!992082E\r\n" 7 (Said Wrong) × Refuses "!9A20835\r\n" 8 (Said True) × Refuses "!99208" 6 Untested
-  pub error : Refuses "!9929937\r\n" 101 (Said True) × Refuses "!99246003001@@\r\n" 106 (Said SwitchedOff)
+  pub silent : Refuses "!992082E\r\n" 7 (Some Wrong) × Refuses "!9A20835\r\n" 8 (Some True) × Refuses "!99208" 6 None
+  pub error : Refuses "!9929937\r\n" 101 (Some True) × Refuses "!99246003001@@\r\n" 106 (Some SwitchedOff)
   -- 105 before 106: no count, of a point that is not held
-  pub in_order : Refuses "!99246005000@@\r\n" 105 (Said SwitchedOff)
+  pub in_order : Refuses "!99246005000@@\r\n" 105 (Some SwitchedOff)
   -- a reply area of 1,023 bytes: 0 or its number by the check, 1 by the act
-  pub short : (our_panel.check (replying 1023 "!99208@@\r\n") ≡ looks 0 0x208 0 0 (Said SwitchedOff))
-      × (act_of (replying 1023 "!99208@@\r\n") ≡ unanswered Untested 1 smallest) × ((act_of (replying 1023 "!9929937\r\n")).number ≡ 1)
+  pub short : (our_panel.check (replying 1023 "!99208@@\r\n") ≡ looks 0 0x208 0 0 (Some SwitchedOff))
+      × (act_of (replying 1023 "!99208@@\r\n") ≡ unanswered None 1 smallest) × ((act_of (replying 1023 "!9929937\r\n")).number ≡ 1)
       × ((act_of (replying 1024 "!9929937\r\n")).number ≡ 101)
   -- the contracts can be met, for every call
   pub act_met :
@@ -96,11 +98,11 @@ acting change = record { check = our_panel.check; act = λ c. change c (act_of c
 
 -- a check that gives 1; one that answers 106 before 105; one that tells a message of a refused frame
 abbrev pub gives_one : Panel
-gives_one = showing (λ c k. cond (too_short (length c.sent.reply)) (looks 1 0 0 0 Untested) k)
+gives_one = showing (λ c k. cond (too_short (length c.sent.reply)) (looks 1 0 0 0 None) k)
 
-abbrev pub beyond : Call → Named → Bool
-beyond c Unknown = false
-beyond c (Known m) = not_held (held c) m (content_in c.sent.frame)
+abbrev pub beyond : Call → Option Message → Bool
+beyond c None = false
+beyond c (Some m) = not_held (held c) m (content_in c.sent.frame)
 
 abbrev pub beyond_first : Panel
 beyond_first = showing (λ c k. cond (eqb k.shown.number 105 && beyond c (message_by c.sent)) (looks 106 0 0 0 k.sum) k)
@@ -120,7 +122,7 @@ as_query = showing (λ c k. cond (eqb k.shown.message 0x246) (looks 0 0x209 k.sh
 
 -- one that tells nothing of the sum, and one that shows nothing where the reply area is too short
 abbrev pub untold : Panel
-untold = showing (λ c k. record { shown = k.shown; sum = Untested })
+untold = showing (λ c k. record { shown = k.shown; sum = None })
 
 abbrev pub by_reply_area : Panel
 by_reply_area = showing (λ c k. cond (too_short (length c.sent.reply)) (looks k.shown.number 0 0 0 k.sum) k)

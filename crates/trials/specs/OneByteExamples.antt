@@ -7,7 +7,7 @@ use Rattle.digits.specs.Text.{text}
 use Rattle.frames.specs.declared.checks.Sum.{Sum}
 use Rattle.frames.specs.declared.checks.Sum.TheVariants.{True, SwitchedOff, Wrong}
 use Rattle.frames.specs.Frame.{beforeSC, sc_in, sc_of, low_byte, sum_true, closed}
-use Rattle.calls.specs.declared.Told.TheVariants.{Untested, Said}
+use Rattle.std.specs.Prelude.{None, Some}
 use Rattle.calls.specs.Calls.{Call, unanswered}
 use Rattle.link.specs.Answer.{answer_of}
 use Rattle.demands.specs.History.{Conduct}
@@ -39,7 +39,7 @@ each_changed f = changed_from (length (text f)) 0 (text f)
 -- a frame is accepted, this is told of its sum, and columns 300 to 303 then hold this lot code
 abbrev pub Stores : String → Sum → String → Type 0
 Stores f sum code =
-    (numbered 1 f ≡ 0) × ((answer_of (sent 1 f)).sum ≡ Said sum) × (take 4 (answer_of (sent 1 f)).areas.columns ≡ text code)
+    (numbered 1 f ≡ 0) × ((answer_of (sent 1 f)).sum ≡ Some sum) × (take 4 (answer_of (sent 1 f)).areas.columns ≡ text code)
 
 pub record OneByteExamples : Type 0 where
   -- the premises: calls that pass; at any place of a frame, any other byte; an SC letter at either place, from capital to small and back
@@ -93,10 +93,10 @@ of_capitals = trusting (λ f. sum_true 2 (capitals f))
 
 -- 7 for all that 6 doesn't refuse, 6 for all, and 7 where 6 refuses
 abbrev pub all_wrong : Conduct
-all_wrong = honest_but (λ c o. cond (eqb o.number 6) o (unanswered (Said Wrong) 7 c.areas))
+all_wrong = honest_but (λ c o. cond (eqb o.number 6) o (unanswered (Some Wrong) 7 c.areas))
 
 abbrev pub all_six : Conduct
-all_six = honest_but (λ c o. unanswered Untested 6 c.areas)
+all_six = honest_but (λ c o. unanswered None 6 c.areas)
 
 abbrev pub seven_for_six : Conduct
 seven_for_six = honest_but (λ c o. cond (eqb o.number 6) (numbering 7 o) o)

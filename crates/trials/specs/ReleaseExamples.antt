@@ -6,12 +6,12 @@ use Rattle.digits.specs.Digits.{within, admitted, capital, capitals}
 use Rattle.digits.specs.Text.{text}
 use Rattle.frames.specs.Frame.{normal, station_in, message_in, has_testID, sum_true, sum_off, reply_of}
 use Rattle.frames.specs.declared.checks.Sum.TheVariants.{Wrong}
-use Rattle.calls.specs.declared.Told.TheVariants.{Said}
+use Rattle.std.specs.Prelude.{Some}
 use Rattle.calls.specs.Calls.{Areas, Sent, Call, Outcome, area_in, unanswered}
 use Rattle.axes.specs.Records.{no_axes}
 use Rattle.orders.specs.Orders.{said_by}
-use Rattle.messages.specs.declared.Asked.{Asked}
-use Rattle.messages.specs.declared.Asked.TheVariants.{Refused, Order}
+use Rattle.messages.specs.Asked.{Asked}
+use Rattle.messages.specs.Asked.{Refused, Order}
 use Rattle.link.specs.Answer.{held, asked, answer_of}
 use Rattle.back.specs.Back.{back_of}
 use Rattle.demands.specs.History.{Conduct}
@@ -88,7 +88,7 @@ id_as_sent = honest_but (λ c o. when_accepted c (withID c (asked c)) o)
 abbrev pub sum_of_capitals : Conduct
 sum_of_capitals =
     honest_but (λ c o.
-    when_accepted c (λ r. cond (not (sum_off c.sent.frame) && not (sum_true 2 (capitals c.sent.frame))) (unanswered (Said Wrong) 7 c.areas) r) o)
+    when_accepted c (λ r. cond (not (sum_off c.sent.frame) && not (sum_true 2 (capitals c.sent.frame))) (unanswered (Some Wrong) 7 c.areas) r) o)
 
 -- one that says a 200H's ten bytes back in capitals where its station came in small letters
 abbrev pub ten_in_capitals : Conduct

@@ -7,8 +7,9 @@ use Rattle.frames.specs.declared.checks.Sum.TheVariants.{True, SwitchedOff, Wron
 use Rattle.frames.specs.Frame.{sc_in, sum_off, sum_said, station_passes}
 use Rattle.axes.specs.Records.{no_axes}
 use Rattle.messages.specs.Asked.{number_given}
-use Rattle.calls.specs.declared.Told.{Told}
-use Rattle.calls.specs.declared.Told.TheVariants.{Untested, Said}
+use Rattle.std.specs.Prelude.{Option}
+use Rattle.frames.specs.declared.checks.Sum.{Sum}
+use Rattle.std.specs.Prelude.{None, Some}
 use Rattle.calls.specs.Calls.{Sent, Call, Outcome, call_of, fresh, unanswered}
 use Rattle.link.specs.Answer.{asked, text_of, areas_after, answer_of}
 use Rattle.back.specs.Back.{back_of}
@@ -24,16 +25,16 @@ use Rattle.trials.specs.Useless.{honest_but}
 abbrev pub sends : Bool → String → Call
 sends unchecked f = allowing unchecked (bench smallest (text f))
 
-abbrev pub Answer : Bool → String → ℕ → Told → Type 0
+abbrev pub Answer : Bool → String → ℕ → Option Sum → Type 0
 Answer unchecked f number told = ((answer_of (sends unchecked f)).number ≡ number) × ((answer_of (sends unchecked f)).sum ≡ told)
 
 -- the same with either
-abbrev pub Both : String → ℕ → Told → Type 0
+abbrev pub Both : String → ℕ → Option Sum → Type 0
 Both f number told = (unchecked : Bool) → Answer unchecked f number told
 
 -- '@@' forbidden, and a reply area, areas, axis records or a release that are refused
 abbrev pub refused_early : Call → ℕ → Type 0
-refused_early c number = ((answer_of (allowing false c)).number ≡ number) × ((answer_of (allowing false c)).sum ≡ Untested)
+refused_early c number = ((answer_of (allowing false c)).number ≡ number) × ((answer_of (allowing false c)).sum ≡ None)
 
 abbrev pub axes_less : List ℕ → Call
 axes_less reply = call_of (text "!99208@@\r\n") no_axes (sends true "").sent.settings reply smallest
@@ -44,16 +45,16 @@ writing unchecked = (sends unchecked "!9924E0012C0130@@\r\n").sent
 
 pub record SumExamples : Type 0 where
   -- a true SC, '@@' and a wrong SC
-  pub is_true : Both "!992082D\r\n" 0 (Said True)
-  pub is_off_lem : Answer true "!99208@@\r\n" 0 (Said SwitchedOff) × Answer false "!99208@@\r\n" 12 (Said SwitchedOff)
-  pub is_wrong_lem : Both "!992082E\r\n" 7 (Said Wrong)
+  pub is_true : Both "!992082D\r\n" 0 (Some True)
+  pub is_off_lem : Answer true "!99208@@\r\n" 0 (Some SwitchedOff) × Answer false "!99208@@\r\n" 12 (Some SwitchedOff)
+  pub is_wrong_lem : Both "!992082E\r\n" 7 (Some Wrong)
   -- '@' once, before or behind a digit of the SC
-  pub once : Both "!99208@D\r\n" 7 (Said Wrong) × Both "!992082@\r\n" 7 (Said Wrong)
+  pub once : Both "!99208@D\r\n" 7 (Some Wrong) × Both "!992082@\r\n" 7 (Some Wrong)
   -- 12 and 7 are tested before 8, and 6 before them; it is told where 8 refuses, and not where 6 does
-  pub before_eight : Answer false "!9A208@@\r\n" 12 (Said SwitchedOff) × Answer true "!9A208@@\r\n" 8 (Said SwitchedOff)
-  pub seven_before_eight : Both "!9A2082D\r\n" 7 (Said Wrong)
-  pub eight : Both "!9A20835\r\n" 8 (Said True)
-  pub after_six : Both "!99208@@\r" 6 Untested × Both "!992082E" 6 Untested × Both "!99200123456789@@\r\n" 6 Untested
+  pub before_eight : Answer false "!9A208@@\r\n" 12 (Some SwitchedOff) × Answer true "!9A208@@\r\n" 8 (Some SwitchedOff)
+  pub seven_before_eight : Both "!9A2082D\r\n" 7 (Some Wrong)
+  pub eight : Both "!9A20835\r\n" 8 (Some True)
+  pub after_six : Both "!99208@@\r" 6 None × Both "!992082E" 6 None × Both "!99200123456789@@\r\n" 6 None
   -- nor where 13, 5, 4, 2 and 1 refuse
   pub untested :
       refused_early (record { sent = sending_to 0x99 3 (text "!99208@@\r\n"); areas = smallest }) 13 × refused_early (axes_less (replicate 1024 0)) 5
@@ -61,14 +62,14 @@ pub record SumExamples : Type 0 where
       × refused_early (axes_less []) 1
   -- an SC in small letters is true under release 2, and wrong under release 1
   pub small_letters :
-      ((answer_of (under 2 (sends false "!992082d\r\n"))).sum ≡ Said True) × ((answer_of (under 1 (sends false "!992082d\r\n"))).sum ≡ Said Wrong)
+      ((answer_of (under 2 (sends false "!992082d\r\n"))).sum ≡ Some True) × ((answer_of (under 1 (sends false "!992082d\r\n"))).sum ≡ Some Wrong)
   -- told where the message is refused: 101, 102, 103, 106 and 108
   pub later :
-      Answer true "!99299@@\r\n" 101 (Said SwitchedOff) × Both "!9929937\r\n" 101 (Said True) × Answer true "!99208G@@\r\n" 102 (Said SwitchedOff)
-      × Answer true "!992081@@\r\n" 103 (Said SwitchedOff) × Answer true "!9920D0002580400@@\r\n" 106 (Said SwitchedOff)
-      × Answer true "!9924B0002582@@\r\n" 108 (Said SwitchedOff)
+      Answer true "!99299@@\r\n" 101 (Some SwitchedOff) × Both "!9929937\r\n" 101 (Some True) × Answer true "!99208G@@\r\n" 102 (Some SwitchedOff)
+      × Answer true "!992081@@\r\n" 103 (Some SwitchedOff) × Answer true "!9920D0002580400@@\r\n" 106 (Some SwitchedOff)
+      × Answer true "!9924B0002582@@\r\n" 108 (Some SwitchedOff)
   -- a write with '@@' where it is forbidden leaves all as it was; with a true SC it is done: column 300 is '0'
-  pub not_written : answer_of (sends false "!9924E0012C0130@@\r\n") ≡ unanswered (Said SwitchedOff) 12 smallest
+  pub not_written : answer_of (sends false "!9924E0012C0130@@\r\n") ≡ unanswered (Some SwitchedOff) 12 smallest
   pub written : get_or (answer_of (sends false "!9924E0012C013008\r\n")).areas.columns 0 0 ≡ 0x30
   -- a history in which the setting changes: a write with '@@', the same where it is forbidden, and a step back, after which nothing stands
   pub history :
@@ -83,7 +84,7 @@ pub record SumExamples : Type 0 where
 abbrev pub numbering : ℕ → Outcome → Outcome
 numbering number o = record { number = number; text = o.text; areas = o.areas; sum = o.sum }
 
-abbrev pub telling : Told → Outcome → Outcome
+abbrev pub telling : Option Sum → Outcome → Outcome
 telling told o = record { number = o.number; text = o.text; areas = o.areas; sum = told }
 
 -- 12 for a wrong SC; '@@' taken though it is forbidden, and refused though it is allowed
@@ -112,8 +113,8 @@ once_is_off =
     honest_but (λ c o.
     cond (eqb o.number 7 && eqb (get_or (sc_in c.sent.frame) 0 0) 0x40)
     (cond c.sent.settings.unchecked
-    (record { number = number_given (asked c); text = text_of c (asked c); areas = areas_after c (asked c); sum = Said SwitchedOff })
-    (numbering 12 (telling (Said SwitchedOff) o)))
+    (record { number = number_given (asked c); text = text_of c (asked c); areas = areas_after c (asked c); sum = Some SwitchedOff })
+    (numbering 12 (telling (Some SwitchedOff) o)))
     o)
 
 -- '@@' taken for queries alone
@@ -122,16 +123,16 @@ off_writes_nothing = honest_but (λ c o. cond (sum_off c.sent.frame && asks_writ
 
 -- '@@' told as true, a wrong SC as untested, the sum told where 6 refused, and told only where the frame is accepted
 abbrev pub off_as_true : Conduct
-off_as_true = honest_but (λ c o. cond (sum_off c.sent.frame) (telling (Said True) o) o)
+off_as_true = honest_but (λ c o. cond (sum_off c.sent.frame) (telling (Some True) o) o)
 
 abbrev pub wrong_untested : Conduct
-wrong_untested = honest_but (λ c o. cond (eqb o.number 7) (telling Untested o) o)
+wrong_untested = honest_but (λ c o. cond (eqb o.number 7) (telling None o) o)
 
 abbrev pub told_at_six : Conduct
-told_at_six = honest_but (λ c o. cond (eqb o.number 6) (telling (Said (sum_said c.sent.settings.release c.sent.frame)) o) o)
+told_at_six = honest_but (λ c o. cond (eqb o.number 6) (telling (Some (sum_said c.sent.settings.release c.sent.frame)) o) o)
 
 abbrev pub told_if_accepted : Conduct
-told_if_accepted = honest_but (λ c o. cond (eqb o.number 0) o (telling Untested o))
+told_if_accepted = honest_but (λ c o. cond (eqb o.number 0) o (telling None o))
 
 -- and one that does what a frame with '@@' asks, and then gives 12
 abbrev pub writes_first : Conduct

@@ -1,4 +1,4 @@
-use Prim.Native.Nat.{◌-◌, ◌*◌, ◌≤◌}
+use Prim.Native.Nat.{◌-◌, ◌*◌}
 use mathlib.Core.Path.{◌≡◌}
 use mathlib.Core.List.{◌++◌}
 use lib.ListN.{length, take, drop}
@@ -6,7 +6,4 @@ use Rattle.axes.specs.Axes.{records_in}
 use Rattle.axes.proofs.records_in.Given as goal
 
 abbrev pub invariant-loop-next : goal.invariant-loop-next
-invariant-loop-next l = (l.next ≤ 8) × (length l.records ≡ 8) × (take l.next l.records ++ records_in (8 - l.next) (drop (l.next * 9) l.bytes) ≡ records_in 8 l.bytes)
-
-abbrev pub decreases-loop-next : goal.decreases-loop-next
-decreases-loop-next l = 8 - l.next
+invariant-loop-next l = (length l.records ≡ 8) × (take l.next l.records ++ records_in (8 - l.next) (drop (l.next * 9) l.bytes) ≡ records_in 8 l.bytes)

@@ -4,17 +4,15 @@ use Rattle.digits.proofs.Fields.{is_number, not_digits_lem}
 use Rattle.table.specs.Table.{message_of}
 use Rattle.messages.proofs.message_in.Goals as goal
 
-pub returns-in-Number : goal.returns-in-Number
+pub returns-in_err-id : goal.returns-in_err-id
 unfolding message_of
-returns-in-Number c =
+returns-in_err-id c =
     let a = c.args in
-    let f = a.frame.now in
-    let e = is_number a.release (take 3 (drop 3 f)) _ (sym c.in-Number.is ∙ c.read_field-id.ensures) in
-    rw (e.0, c.numbered.ensures, e.1)
+    c.from_residual.ensures ∙ sym (rw (not_digits_lem a.release (take 3 (drop 3 a.frame.now)) (sym c.in_err-id.was ∙ c.read_field.ensures)))
 
-pub returns-in-NotDigits : goal.returns-in-NotDigits
+pub returns : goal.returns
 unfolding message_of
-returns-in-NotDigits c =
+returns c =
     let a = c.args in
-    let f = a.frame.now in
-    rw (not_digits_lem a.release (take 3 (drop 3 f)) (sym c.in-NotDigits.is ∙ c.read_field-id.ensures))
+    let e = is_number a.release (take 3 (drop 3 a.frame.now)) _ (sym c.in_ok-id.was ∙ c.read_field.ensures) in
+    rw (e.0, c.numbered.ensures, e.1)

@@ -10,10 +10,10 @@ returns-then-not-is_write c = rw (sym c.is_write.ensures ∙ c.if-not-is_write.t
 
 pub count_run-requires : goal.count_run-requires
 count_run-requires c =
-    run_counts c.args.order c.args.area.now c.requires.0 c.requires.1 (sym c.is_write.ensures ∙ c.if-not-is_write.false) c.kind.ensures
+    run_counts c.args.order c.args.area.now c.requires.0 c.requires.1 (sym c.is_write.ensures ∙ c.if-not-is_write.false) c.kind-k.ensures
 
 pub returns : goal.returns
 returns c =
     let s = c.args in
     rw (sym c.is_write.ensures ∙ c.if-not-is_write.false)
-    (c.count_run.ensures ∙ ap (λ (k : Kind). effective_among k s.order.start s.order.count s.area.now) c.kind.ensures)
+    (c.count_run.ensures ∙ ap (λ (k : Kind). effective_among k s.order.start s.order.count s.area.now) c.kind-k.ensures)

@@ -1,8 +1,10 @@
+use mathlib.Core.List.{List}
 use Prim.Native.Nat.{ℕ}
-use mathlib.Core.Path.{refl, ap, ◌∙◌}
+use mathlib.Core.Path.{ap₂, refl, ap, ◌∙◌}
 use native.Mathlib.Omega.{arith}
 use lib.Bits.{bit_and}
 use lib.ListN.{drop}
+use Rattle.axes.specs.declared.AxisRecord.{AxisRecord}
 use Rattle.digits.specs.Digits.{number_of}
 use Rattle.digits.proofs.Laid.{part_rest}
 use Rattle.kinds.specs.declared.Kind.{Kind}
@@ -91,7 +93,7 @@ pub returns-in-AxisStatus : goal.returns-in-AxisStatus
 returns-in-AxisStatus c =
     let sent : Sent = sent_of c.args.frame.now c.args.axes c.args.settings c.args.reply.now in
     let s = c.args in
-    handling.says c.requires.0 sent c.args.kept AxisStatus c.in-AxisStatus.is (ap (λ (n : ℕ). axes_text s.order.message (bit_and n s.settings.fitted) s.axes.records) (c.number-pattern.ensures ∙ ap number_of c.rest_of-rest.ensures)) c.reply_axes.ensures
+    handling.says c.requires.0 sent c.args.kept AxisStatus c.in-AxisStatus.is (ap₂ (λ (n : ℕ) (rs : List AxisRecord). axes_text s.order.message (bit_and n s.settings.fitted) rs) (c.number-pattern.ensures ∙ ap number_of c.rest_of-rest.ensures) c.records_of.ensures) c.reply_axes.ensures
 
 pub returns-in-WritePoints : goal.returns-in-WritePoints
 returns-in-WritePoints c =

@@ -1,11 +1,11 @@
 use mathlib.Core.Path.{sym, ◌∙◌}
 use Rattle.refusals.proofs.Rows.{late_by_lem}
-use Rattle.refusals.proofs.late_refusal.Goals as goal
-use Rattle.refusals.proofs.late_refusal.Goals.{in-True, in-SwitchedOff+else-not-settings}
+use Rattle.refusals.proofs.test_late.Goals as goal
+use Rattle.refusals.proofs.test_late.Goals.{in-True, in-SwitchedOff}
 
-pub returns-then-not-settings : goal.returns-then-not-settings
-returns-then-not-settings c =
-    sym (late_by_lem c.args.settings c.args.frame.now c.args.points.now c.args.kept _ c.requires.1 ∙ rw (c.in-SwitchedOff.is, c.if-not-settings.true))
+pub returns-in-SwitchedOff-2 : goal.returns-in-SwitchedOff-2
+returns-in-SwitchedOff-2 c =
+    sym (late_by_lem c.args.settings c.args.frame.now c.args.points.now c.args.kept _ c.requires.1 ∙ rw (c.in-SwitchedOff.is, c.if-settings.false))
 
 pub returns-in-Wrong : goal.returns-in-Wrong
 returns-in-Wrong c =
@@ -20,16 +20,16 @@ returns-then-not-is_ours c =
     (late_by_lem c.args.settings c.args.frame.now c.args.points.now c.args.kept _ c.requires.1
     ∙ elim c.match-sum.branch [
       | in-True w ↦ rw (w.in-True.is, sym c.is_ours.ensures ∙ c.if-not-is_ours.true)
-      | in-SwitchedOff+else-not-settings w ↦ rw (w.in-SwitchedOff.is, w.if-not-settings.false, sym c.is_ours.ensures ∙ c.if-not-is_ours.true)
+      | in-SwitchedOff w ↦ rw (w.in-SwitchedOff.is, w.if-settings.true, sym c.is_ours.ensures ∙ c.if-not-is_ours.true)
     ])
 
 pub returns : goal.returns
 returns c =
     let o = sym c.is_ours.ensures ∙ c.if-not-is_ours.false in
-    c.count_refusal.ensures
+    c.test_count.ensures
     ∙ sym
     (late_by_lem c.args.settings c.args.frame.now c.args.points.now c.args.kept _ c.requires.1
     ∙ elim c.match-sum.branch [
       | in-True w ↦ rw (w.in-True.is, o)
-      | in-SwitchedOff+else-not-settings w ↦ rw (w.in-SwitchedOff.is, w.if-not-settings.false, o)
+      | in-SwitchedOff w ↦ rw (w.in-SwitchedOff.is, w.if-settings.true, o)
     ])

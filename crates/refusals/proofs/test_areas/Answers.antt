@@ -1,7 +1,7 @@
 use Rattle.refusals.proofs.Rows.{area_2, area_3, area_10, area_4, area_0}
 use Rattle.refusals.proofs.Tested.{sound, same_sound, same_journal}
 use mathlib.Core.Path.{sym, ◌∙◌}
-use Rattle.refusals.proofs.area_refusal.Goals as goal
+use Rattle.refusals.proofs.test_areas.Goals as goal
 
 pub returns-then-not-fits_points : goal.returns-then-not-fits_points
 returns-then-not-fits_points c = let a = c.args in area_2 a.lengths a.journal.now a.kept (sym c.fits_points.ensures ∙ c.if-not-fits_points.true)

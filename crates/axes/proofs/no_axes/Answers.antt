@@ -1,4 +1,0 @@
-use Rattle.axes.proofs.no_axes.Goals as goal
-
-pub returns : goal.returns
-returns c = rw c.no_records.ensures
