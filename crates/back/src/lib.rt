@@ -96,9 +96,11 @@ pub fn step_back(
         flags: flags.len(),
         firsts,
     };
-    let number = back_refusal(lengths, points, journal, kept);
-    if number != 0 {
-        return Back { number, kept };
+    if let Err(refusal) = back_refusal(lengths, points, journal, kept) {
+        return Back {
+            number: refusal.into(),
+            kept,
+        };
     }
     let held = held_in(lengths);
     let used = kept.used;

@@ -26,9 +26,8 @@ use Rattle.calls.specs.Calls.{Areas, Call, Outcome, area_in, written, sum_code}
 use Rattle.refusals.specs.Refusals.{too_short, area_rows, check_rows, late_rows, count_rows, check_early, late, check_silent_of}
 use Rattle.orders.specs.Orders.{writes}
 use Rattle.orders.proofs.Judging.{not_so}
-use Rattle.link.specs.declared.Checked.{Checked}
 use Rattle.link.specs.Answer.{held, asked, answer_of}
-use Rattle.link.specs.Check.{check_of, act_of}
+use Rattle.link.specs.Check.{Looked, check_of, act_of}
 use Rattle.link.proofs.Answering.{accepted}
 use Rattle.link.proofs.Carrying.{fine, areas_long}
 use Rattle.link.proofs.Checking.{checked_by, without_reply_lem, short_act, long_act, same_act, same_gives}
@@ -192,13 +191,13 @@ cabinet_as_one c n n' l l' u u' v v' s s' a a' reply reply' x y =
 pub cabinet_looks : CabinetLooks
 cabinet_looks c k told m start count n l u v s a reply x y =
     let e = without_reply_lem c in
-    let of : (f : Shown → ℕ) → f (shown_of (check_of (replying_in [] c)).asked) ≡ f (shown c) = λ f. ap (λ (w : Checked). f (shown_of w.asked)) e in
+    let of : (f : Shown → ℕ) → f (shown_of (check_of (replying_in [] c)).asked) ≡ f (shown c) = λ f. ap (λ (w : Looked). f (shown_of w.asked)) e in
     let kn : k ≡ (shown c).number = x.number_is ∙ of (λ (w : Shown). w.number) in
     let w : record { number = k; message = m; start = start; count = count } ≡ shown c =
     λ i. record { number = kn i; message = (x.message_is ∙ of (λ (w : Shown). w.message)) i; start = (x.start_is ∙ of (λ (w : Shown). w.start)) i; count = (x.count_is ∙ of (λ (w : Shown). w.count)) i } in
     record {
       number = y.gives.number_is ∙ number_done c _ refl ∙ ap (cond (too_short (length c.sent.reply)) 1) (sym kn);
-      sum = y.sum_is ∙ code_done c _ refl ∙ ap (cond (too_short (length c.sent.reply)) 0) (sym (x.sum_is ∙ ap (λ (w : Checked). sum_code w.sum) e));
+      sum = y.sum_is ∙ code_done c _ refl ∙ ap (cond (too_short (length c.sent.reply)) 0) (sym (x.sum_is ∙ ap (λ (w : Looked). sum_code w.sum) e));
       done = λ z long.
           subst (ShownIsDone c _) (sym y.gives.areas_are) (subst (λ (v : Shown). ShownIsDone c v (act_of c).areas) (sym w) (shown_is_done c (sym kn ∙ z) long));
     }

@@ -9,7 +9,7 @@ use Rattle.calls.specs.Calls.{Areas, Call, Outcome}
 use Rattle.link.specs.declared.Answered.{Answered}
 use Rattle.link.specs.declared.Checked.{Checked}
 use Rattle.back.specs.declared.Back.{Back}
-use Rattle.link.specs.Check.{check_of}
+use Rattle.link.specs.Check.{checked_by, check_of}
 use Rattle.link.specs.Contract.{Gives}
 use Rattle.back.specs.Back.{StepsBack}
 use Rattle.board.specs.Calls.{Receives, CabinetGives, CabinetChecks, backed_of}
@@ -22,7 +22,7 @@ OneAnswer =
 
 -- `check`, and what `show` makes of what it answers
 pub record OneCheck (c : Call) : Type 0 where
-  pub checked : (r r' : Checked) → r ≡ check_of c → r' ≡ check_of c → r ≡ r'
+  pub checked : (r r' : Checked) → checked_by r ≡ check_of c → checked_by r' ≡ check_of c → r ≡ r'
   pub shown : (asked : Asked) (r r' : Shown) → r ≡ shown_of asked → r' ≡ shown_of asked → r ≡ r'
 
 -- `step_back`

@@ -27,9 +27,8 @@ use Rattle.refusals.proofs.Rows.{passed, checked_rows, told_untested}
 use Rattle.refusals.proofs.Tested.{shaped_long, sound}
 use Rattle.orders.specs.declared.Order as order
 use Rattle.link.specs.declared.Answered.{Answered}
-use Rattle.link.specs.declared.Checked.{Checked}
 use Rattle.link.specs.Answer.{held, asked, text_of, areas_after, answer_of}
-use Rattle.link.specs.Check.{check_of, refused_text, act_text, act_of}
+use Rattle.link.specs.Check.{Looked, check_of, refused_text, act_text, act_of}
 use Rattle.link.specs.Contract.{Heard, Gives, Acts}
 use Rattle.link.proofs.Answering.{silent_answer, heard_answer, silent_number_lem}
 use Rattle.link.proofs.Outcomes.{handing_on, gives_by}
@@ -174,7 +173,7 @@ acted_short c e =
     gives_by c (unanswered None 1 c.areas) _ c.areas c.sent.reply refl (short_act c (lt-ltb _ _ e)) refl refl refl refl
     (sym (laid_nothing c.sent.reply 0))
 
-module _ (c : Call) (long : 1024 ≤ length c.sent.reply) {k : Checked} (checked : k ≡ check_of c) where
+module _ (c : Call) (long : 1024 ≤ length c.sent.reply) {k : Looked} (checked : k ≡ check_of c) where
   abbrev enough : too_short (length c.sent.reply) ≡ false
   enough = le-ltb _ _ long
 
@@ -184,7 +183,7 @@ module _ (c : Call) (long : 1024 ≤ length c.sent.reply) {k : Checked} (checked
       → reply' ≡ laid c.sent.reply 0 (refused_text c.sent.settings.station n) → Acts c r (handing_on c.areas r.kept) reply'
   acted_refused n r reply' e f g =
       let o : act_of c ≡ doing c enough (Refused n) k.sum =
-      long_act c enough ∙ ap (λ (x : Checked). doing c enough x.asked x.sum) (sym checked) ∙ ap (λ (a : Asked). doing c enough a k.sum) e in
+      long_act c enough ∙ ap (λ (x : Looked). doing c enough x.asked x.sum) (sym checked) ∙ ap (λ (a : Asked). doing c enough a k.sum) e in
       gives_by c _ r (handing_on c.areas r.kept) reply' refl o f.0 f.1 f.3
       (equal_parts refl refl refl refl refl (ap (λ (x : Kept). x.used) f.2) (ap (λ (x : Kept). x.effective) f.2))
       g
@@ -195,8 +194,8 @@ module _ (c : Call) (long : 1024 ≤ length c.sent.reply) {k : Checked} (checked
       checked_by c (λ (a : Asked). a ≡ Order o.message o.start o.count → Heard c o)
       (λ z q. record { silent_0 = long_silent c enough ∙ z; held_is = h; order = q })
       (λ n q. absurd (let z : ◌≡◌ {A = ℕ} 0 1 = cc in omega arith))
-      (sym (ap (λ (x : Checked). x.asked) checked) ∙ e)
+      (sym (ap (λ (x : Looked). x.asked) checked) ∙ e)
 
   -- and what it told of the sum is what an answer tells
   pub acted_told : k.sum ≡ told_of c
-  acted_told = ap (λ (x : Checked). x.sum) checked ∙ told_checked c ∙ sym (long_told c enough)
+  acted_told = ap (λ (x : Looked). x.sum) checked ∙ told_checked c ∙ sym (long_told c enough)

@@ -4,15 +4,25 @@ use Rattle.std.specs.Prelude.{ℕ, cond, List, [], eqb, ltb, length}
 use Rattle.frames.specs.Frame.{error_of}
 use Rattle.messages.specs.Asked.{Asked}
 use Rattle.messages.specs.Asked.{Refused, Order}
-use Rattle.messages.specs.Asked.{number_given}
-use Rattle.std.specs.Prelude.{None}
+use Rattle.messages.specs.Asked.{number_given, asked_by}
+use Rattle.std.specs.Prelude.{None, Option}
+use Rattle.frames.specs.declared.checks.Sum.{Sum}
 use Rattle.calls.specs.Calls.{Call, Outcome, unanswered}
 use Rattle.refusals.specs.Refusals.{too_short, check_silent_of, check_told_of}
 use Rattle.link.specs.declared.Checked.{Checked}
 use Rattle.link.specs.Answer.{asked, text_of, areas_after}
 
+-- what a check says: what the frame asks, and what it tells of the sum
+pub record Looked : Type 0 where
+  pub asked : Asked
+  pub sum : Option Sum
+
+-- so what its answer says
+abbrev pub checked_by : Checked → Looked
+checked_by r = record { asked = asked_by r.asked; sum = r.sum }
+
 -- what a check answers: the refusal, or where none without a reply holds what the frame asks; and what the sum test said
-unfoldable pub check_of : Call → Checked
+unfoldable pub check_of : Call → Looked
 check_of c = record { asked = cond (eqb (check_silent_of c) 0) (asked c) (Refused (check_silent_of c)); sum = check_told_of c }
 
 -- a refusal's reply, as the table's column "Reply" has it ("Refusal numbers"): none below 101, then the error reply

@@ -4,14 +4,17 @@
 ghost use Rattle.std.specs.Prelude.{◌≡◌, [], ◌≤◌, length};
 ghost use Rattle.digits.specs.Laid.{laid};
 ghost use Rattle.calls.specs.Calls.{areas_of, call_of};
-ghost use Rattle.link.specs.Check.{check_of, refused_text};
+ghost use Rattle.messages.specs.Refusal.{refusal_number};
+ghost use Rattle.link.specs.Check.{check_of, checked_by, refused_text};
 ghost use Rattle.link.specs.Contract.{Heard, accepted, Answers, Acts, Performs};
 
 use axes::Axes;
-use calls::{Kept, Settings, Told};
+use calls::{Kept, Settings};
+use frames::checks::Sum;
 use frames::replies::error_reply;
 use kinds::{Firsts, Kind, Lengths, held_in};
-use messages::{Asked, judge};
+use messages::refusal::Refusal;
+use messages::{Request, judge};
 use orders::{Done, Order, carry_out};
 use refusals::silent;
 
@@ -21,35 +24,36 @@ pub struct Answered {
     pub number: u16,
     pub length: usize,
     pub kept: Kept,
-    pub sum: Told,
+    pub sum: Option<Sum>,
 }
 
 // What a check answers: the refusal, or what would be done; what is told of the sum.
 #[derive(Clone, Copy)]
 pub struct Checked {
-    pub asked: Asked,
-    pub sum: Told,
+    pub asked: Result<Request, Refusal>,
+    pub sum: Option<Sum>,
 }
 
 // What an order that was carried out gives: number 0.
-fn accept(done: Done, sum: Told) -> Answered
+fn accept(done: Done, sum: Option<Sum>) -> Answered
     ensures { result ≡ accepted done sum }
 {
-    let kept = done.kept;
     Answered {
         number: 0,
         length: done.length,
-        kept,
+        kept: done.kept,
         sum,
     }
 }
 
 // A refusal: from 101 on with the ten bytes of an error reply.
-fn refuse(reply: &mut [u8], station: u8, number: u16, kept: Kept, sum: Told) -> Answered
+fn refuse(reply: &mut [u8], station: u8, refusal: Refusal, kept: Kept, sum: Option<Sum>) -> Answered
     requires { 10 ≤ length reply.old }
-    ensures number_value { (result.number ≡ number) × (result.length ≡ length (refused_text station number)) × (result.kept ≡ kept) × (result.sum ≡ sum) }
-    ensures reply_after { reply.new ≡ laid reply.old 0 (refused_text station number) }
+    ensures number_value { (result.number ≡ refusal_number refusal) × (result.length ≡ length (refused_text station (refusal_number refusal)))
+        × (result.kept ≡ kept) × (result.sum ≡ sum) }
+    ensures reply_after { reply.new ≡ laid reply.old 0 (refused_text station (refusal_number refusal)) }
 {
+    let number = u16::from(refusal);
     let mut length = 0;
     if number > 100 {
         length = error_reply(reply, station, number);
@@ -110,7 +114,7 @@ pub fn check(
     axes: Axes,
     settings: Settings,
 ) -> Checked
-    ensures { result ≡ check_of
+    ensures { checked_by result ≡ check_of
         (call_of frame.now axes settings []
         (areas_of points.now columns.now integers.now flags.now journal.now kept firsts)) }
 {
@@ -122,11 +126,10 @@ pub fn check(
         firsts,
     };
     let hearing = silent(frame, axes, settings, lengths, points, journal, kept);
-    let number = hearing.number;
     let sum = hearing.sum;
-    if number != 0 {
+    if let Err(refusal) = hearing.passed {
         return Checked {
-            asked: Asked::Refused { number },
+            asked: Err(refusal),
             sum,
         };
     }
@@ -162,25 +165,20 @@ pub fn act(
             number: 1,
             length: 0,
             kept,
-            sum: Told::Untested,
+            sum: None,
         };
     }
     let checked = check(
         frame, points, columns, integers, flags, journal, kept, firsts, axes, settings,
     );
-    let asked = checked.asked;
     let sum = checked.sum;
-    match asked {
-        Asked::Refused { number } => refuse(reply, settings.station, number, kept, sum),
-        Asked::Order {
-            message,
-            start,
-            count,
-        } => {
+    match checked.asked {
+        Err(refusal) => refuse(reply, settings.station, refusal, kept, sum),
+        Ok(request) => {
             let order = Order {
-                message,
-                start,
-                count,
+                message: request.message,
+                start: request.start,
+                count: request.count,
                 held: held_in(Lengths {
                     points: points.len(),
                     columns: columns.len(),

@@ -6,7 +6,8 @@ use native.Mathlib.Omega.{arith}
 use lib.Dec.{eqb}
 use Rattle.messages.specs.declared.refusal.Refusal.{Refusal}
 use Rattle.messages.specs.declared.refusal.Refusal.TheVariants.{ReplyArea, PointsArea, ColumnsArea, JournalArea, AxisRecords, Shape, WrongSum, OtherStation, NothingToStepBack, VariableAreas, KeptCount, SumSwitchedOff, Release, UnknownMessage, NotDigits, ContentLength, ProgramNumber, CountZero, NotHeld, AxisPattern, ChangeType}
-use Rattle.messages.specs.Refusal.{refusal_number}
+use Rattle.std.specs.Prelude.{Result, Ok, Err}
+use Rattle.messages.specs.Refusal.{refusal_number, number_by}
 
 -- the refusal of a number
 refusal_of : ℕ → Refusal
@@ -82,3 +83,10 @@ refusal_some CountZero e = omega (arith, e)
 refusal_some NotHeld e = omega (arith, e)
 refusal_some AxisPattern e = omega (arith, e)
 refusal_some ChangeType e = omega (arith, e)
+
+-- the number of an answer, by what it is
+pub err_number : {A : Type 0} {x : Result A Refusal} {r : Refusal} → x ≡ Err r → number_by x ≡ refusal_number r
+err_number e = ap number_by e
+
+pub ok_number : {A : Type 0} {x : Result A Refusal} {v : A} → x ≡ Ok v → number_by x ≡ 0
+ok_number e = ap number_by e
