@@ -8,6 +8,7 @@ use lib.Bits.{bit_and}
 use lib.Dec.{eqb, ltb, leb}
 use lib.ListN.{length}
 use borrow.Author.Tests.{eqb-true, eqb-false, ltb-true, ltb-false}
+use Rattle.axes.specs.Records.{records_of}
 use Rattle.digits.specs.Digits.{number_of}
 use Rattle.digits.specs.Text.{text}
 use Rattle.frames.specs.declared.checks.Sum.{Sum}
@@ -172,7 +173,7 @@ said_alike a h f g SayBack m start count area n r = ap (same_text m) (r refl)
 said_alike a h f g CountPoints m start count area n r = refl
 said_alike a h f g ListPoints m start count area n r = refl
 said_alike a h f g ReadRun m start count area n r = refl
-said_alike a h f g AxisStatus m start count area n r = ap (λ (k : ℕ). axes_text m (bit_and k h.settings.fitted) h.axes.records) n
+said_alike a h f g AxisStatus m start count area n r = ap (λ (k : ℕ). axes_text m (bit_and k h.settings.fitted) (records_of h.axes)) n
 said_alike a h f g WritePoints m start count area n r = refl
 said_alike a h f g ClearRun m start count area n r = refl
 said_alike a h f g ChangeRun m start count area n r = refl

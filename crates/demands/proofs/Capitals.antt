@@ -12,6 +12,7 @@ use lib.Seq.{length-take-le}
 use mir.Syntax.{w32}
 use mir.Val.{of_z}
 use borrow.Author.Tests.{eqb-true}
+use Rattle.axes.specs.Records.{records_of}
 use Rattle.digits.specs.Digits.{byte_of, capital, capitals, digits_of, admitted, number_of}
 use Rattle.digits.specs.Text.{text}
 use Rattle.digits.proofs.Bools.{either}
@@ -217,8 +218,8 @@ module _ (c : Call) (m : Message) (start count : ℕ) where
       joins (head_of m start count) (digits_in run) (of_head m start count) (of_bytes run)
   of_said AxisStatus n =
       let p = bit_and (number_of (rest c.sent m)) c.sent.settings.fitted in
-      let rs = records_digits (axes_of p) c.sent.axes.records in
-      joins (id_of m) (digits_of 2 p ++ rs) id (joins (digits_of 2 p) rs (of_digits 2 p) (of_records (axes_of p) c.sent.axes.records))
+      let rs = records_digits (axes_of p) (records_of c.sent.axes) in
+      joins (id_of m) (digits_of 2 p ++ rs) id (joins (digits_of 2 p) rs (of_digits 2 p) (of_records (axes_of p) (records_of c.sent.axes)))
   of_said WritePoints n = of_head m start count
   of_said ClearRun n = of_head m start count
   of_said ChangeRun n = of_head m start count

@@ -8,6 +8,7 @@ use lib.Bits.{bit_and, and_le_l}
 use lib.Dec.{eqb, leb}
 use lib.ListN.{length, drop, get_or, replicate, length-append}
 use borrow.Author.Tests.{leb-true}
+use Rattle.axes.specs.Records.{records_of}
 use Rattle.digits.specs.Digits.{number_of}
 use Rattle.digits.proofs.Bools.{either}
 use Rattle.frames.specs.Frame.{normal, error, three_of}
@@ -97,7 +98,7 @@ module _ (c : Call) (m : Message) (start count : ℕ) (z : silent_of c ≡ 0) (e
       let p = bit_and (number_of (rest c.sent m)) c.sent.settings.fitted in
       let b = handling.one_byte order d refl refl in
       let l = and_le_l (number_of (rest c.sent m)) c.sent.settings.fitted in
-      rw (length_axes m p (length (axes_of p)) c.sent.axes.records refl) (omega (arith, at_most p (omega arith)))
+      rw (length_axes m p (length (axes_of p)) (records_of c.sent.axes) refl) (omega (arith, at_most p (omega arith)))
   said_short WritePoints d = head
   said_short ClearRun d = head
   said_short ChangeRun d = head

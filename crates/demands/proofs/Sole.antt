@@ -2,7 +2,10 @@
 use Prim.Native.Nat.{ℕ}
 use mathlib.Core.Path.{◌≡◌, sym, ap, ◌∙◌}
 use mathlib.Core.List.{List}
+use Rattle.messages.proofs.Numbered.{same_asked_by}
 use Rattle.link.specs.declared.Answered.{Answered}
+use Rattle.link.specs.declared.Checked.{Checked}
+use Rattle.link.specs.Check.{Looked, checked_by}
 use Rattle.back.specs.declared.Back.{Back}
 use Rattle.calls.specs.Calls.{Call}
 use Rattle.board.specs.Calls.{kept_of, answered_of, backed_of}
@@ -17,8 +20,13 @@ one_answer outcomeOf c r r' a a' reply reply' x y =
     let s : r.sum ≡ r'.sum = x.sum_is ∙ sym y.sum_is in
     (λ i. record { number = n i; length = l i; kept = h i; sum = s i }, q, x.reply_is ∙ sym y.reply_is)
 
+same_checked : {r r' : Checked} → checked_by r ≡ checked_by r' → r ≡ r'
+same_checked {r} {r'} e =
+    let a = same_asked_by r.asked r'.asked (ap (λ (x : Looked). x.asked) e) in
+    λ i. record { asked = a i; sum = (e i).sum }
+
 pub one_check : (c : Call) → OneCheck c
-one_check c = record { checked = λ r r' e f. e ∙ sym f; shown = λ asked r r' e f. e ∙ sym f }
+one_check c = record { checked = λ r r' e f. same_checked (e ∙ sym f); shown = λ asked r r' e f. e ∙ sym f }
 
 pub one_step_back : OneStepBack
 one_step_back before r r' a a' x y =

@@ -7,6 +7,8 @@ use lib.Dec.{eqb}
 use Rattle.messages.specs.declared.refusal.Refusal.{Refusal}
 use Rattle.messages.specs.declared.refusal.Refusal.TheVariants.{ReplyArea, PointsArea, ColumnsArea, JournalArea, AxisRecords, Shape, WrongSum, OtherStation, NothingToStepBack, VariableAreas, KeptCount, SumSwitchedOff, Release, UnknownMessage, NotDigits, ContentLength, ProgramNumber, CountZero, NotHeld, AxisPattern, ChangeType}
 use Rattle.std.specs.Prelude.{Result, Ok, Err}
+use Rattle.messages.specs.declared.Request.{Request}
+use Rattle.messages.specs.Asked.{asked_by}
 use Rattle.messages.specs.Refusal.{refusal_number, number_by}
 
 -- the refusal of a number
@@ -90,3 +92,16 @@ err_number e = ap number_by e
 
 pub ok_number : {A : Type 0} {x : Result A Refusal} {v : A} → x ≡ Ok v → number_by x ≡ 0
 ok_number e = ap number_by e
+
+-- what an answer says that a frame asks tells which answer it is
+pub same_asked_by : (x y : Result Request Refusal) → asked_by x ≡ asked_by y → x ≡ y
+same_asked_by (Ok r) (Ok s) e =
+    let m : r.message ≡ s.message = cc in
+    let n : r.start ≡ s.start = cc in
+    let k : r.count ≡ s.count = cc in
+    λ i. Ok (record { message = m i; start = n i; count = k i })
+same_asked_by (Err r) (Err s) e =
+    let n : refusal_number r ≡ refusal_number s = cc in
+    ap Err (same_refusal n)
+same_asked_by (Ok r) (Err s) e = absurd (let z : ◌≡◌ {A = ℕ} 0 1 = cc in omega arith)
+same_asked_by (Err r) (Ok s) e = absurd (let z : ◌≡◌ {A = ℕ} 0 1 = cc in omega arith)

@@ -196,8 +196,7 @@ fn answer_frame(
             reply,
         );
     }
-    if read.eight {
-        let records = read.records;
+    if let Some(records) = read {
         return answer_run(
             frame,
             points,
