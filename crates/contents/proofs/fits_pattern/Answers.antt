@@ -2,10 +2,10 @@ use borrow.Author.Tests.{eq-eqb, ne_eqb}
 use Rattle.table.specs.Table.{pattern_fits}
 use Rattle.contents.proofs.fits_pattern.Goals as goal
 
-pub returns-then-pattern-eq0 : goal.returns-then-pattern-eq0
+pub returns-then-pattern-ne0 : goal.returns-then-pattern-ne0
 unfolding pattern_fits
-returns-then-pattern-eq0 c = rw (eq-eqb _ _ c.if-pattern-eq0.true)
+returns-then-pattern-ne0 c = rw (ne_eqb _ _ c.if-pattern-ne0.true)
 
-pub returns : goal.returns
+pub returns-else-pattern-ne0 : goal.returns-else-pattern-ne0
 unfolding pattern_fits
-returns c = rw (ne_eqb _ _ c.if-pattern-eq0.false)
+returns-else-pattern-ne0 c = rw (eq-eqb _ _ c.if-pattern-ne0.false)
