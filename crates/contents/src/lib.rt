@@ -93,6 +93,7 @@ pub fn is_long(follows: Follows, unit: usize, count: usize, rest: &[u8]) -> bool
 }
 
 // A pattern is not 00, and each of its axes is fitted.
+#[tactic(auto, unfolding(table::specs::Table::pattern_fits))]
 fn fits_pattern(pattern: u8, fitted: u8) -> bool
     ensures { result ≡ pattern_fits fitted pattern }
 {
