@@ -15,6 +15,7 @@ use points::units::Position;
 use slots::point_at;
 
 // Eight digits for each axis of a pattern, lowest first.
+#[tactic(auto, using(points::proofs::Ones::first_axis))]
 fn put_positions(reply: &mut [u8], at: usize, pattern: u8, positions: [Position; 8])
     requires { at + 8 * length (axes_of pattern) ≤ length reply.old }
     ensures { reply.new ≡ laid reply.old at (position_digits (axes_of pattern) positions) }
@@ -58,6 +59,7 @@ pub struct Listed {
 }
 
 // The effective points among so many slots, the first one's number being start, up to the first that has no room.
+#[tactic(auto, using(points::proofs::Ones::at_most))]
 pub fn put_listings(reply: &mut [u8], slots: &[u8], start: usize, count: usize) -> Listed
     requires { (1024 ≤ length reply.old) × (start + count ≤ 1501) × (40 * count ≤ length slots.now) }
     ensures many_value { (result.many ≡ length (listed 1011 count start slots.now))

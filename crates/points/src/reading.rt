@@ -32,6 +32,7 @@ fn read_position(field: &[u8]) -> Position
 }
 
 // The positions of a pattern's axes, lowest first; those of absent axes are 0.
+#[tactic(auto, using(crate::proofs::Ones::first_axis))]
 fn read_positions(pattern: u8, digits: &[u8]) -> [Position; 8]
     requires { (8 * length (axes_of pattern) ≤ length digits.now) × (all_digits digits.now ≡ true) }
     ensures { result ≡ positions_of 8 pattern digits.now }
@@ -44,6 +45,7 @@ fn read_positions(pattern: u8, digits: &[u8]) -> [Position; 8]
 }
 
 // How many digits the point at the front has, by its own pattern.
+#[tactic(auto, using(crate::proofs::Ones::at_most))]
 pub fn point_length(digits: &[u8]) -> usize
     requires { (2 ≤ length digits.now) × (all_digits digits.now ≡ true) }
     ensures { result ≡ length_of digits.now }
@@ -52,6 +54,7 @@ pub fn point_length(digits: &[u8]) -> usize
 }
 
 // The point at the front.
+#[tactic(auto, using(crate::proofs::Measured::least))]
 pub fn read_point(digits: &[u8]) -> Point
     requires { (length_of digits.now ≤ length digits.now) × (all_digits digits.now ≡ true) }
     ensures { result ≡ point_of digits.now }

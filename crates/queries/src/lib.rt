@@ -48,6 +48,7 @@ fn put_record(reply: &mut [u8], at: usize, r: AxisRecord)
 }
 
 // Sixteen digits for each axis of a pattern, lowest first.
+#[tactic(auto, using(points::proofs::Ones::first_axis))]
 fn put_records(reply: &mut [u8], at: usize, pattern: u8, records: [AxisRecord; 8])
     requires { at + 16 * length (axes_of pattern) ≤ length reply.old }
     ensures { reply.new ≡ laid reply.old at (records_digits (axes_of pattern) records) }
@@ -60,6 +61,7 @@ fn put_records(reply: &mut [u8], at: usize, pattern: u8, records: [AxisRecord; 8
 }
 
 // 212H, of a pattern without unfitted axes.
+#[tactic(auto, using(points::proofs::Ones::at_most))]
 pub fn reply_axes(
     reply: &mut [u8],
     station: u8,

@@ -1,6 +1,4 @@
-use Prim.Native.Nat.{◌*◌}
 use native.Mathlib.Omega.{arith}
-use Rattle.points.proofs.Ones.{at_most}
 use Rattle.listing.proofs.Listings.{at_skip, at_full, at_end, moved, done, pattern_in, took}
 use Rattle.listing.proofs.put_listings.Goals as goal
 
@@ -8,12 +6,6 @@ pub loop-i-preserved-then-pattern-eq0 : goal.loop-i-preserved-then-pattern-eq0
 loop-i-preserved-then-pattern-eq0 c =
     let l = c.loop-i in
     (omega arith, moved l.invariant.1 (at_skip c.args.slots.now l.i c.args.start c.args.count l.digits (omega arith) c.if-pattern-eq0.true))
-
-pub overflow_mul-size : goal.overflow_mul-size
-overflow_mul-size c = omega (arith, c.ones.ensures, at_most _ (c.type_inv.slots (c.loop-i.i * 40)).fits)
-
-pub overflow_add-size : goal.overflow_add-size
-overflow_add-size c = omega (arith, c.ones.ensures, at_most _ (c.type_inv.slots (c.loop-i.i * 40)).fits)
 
 pub put_listing-requires : goal.put_listing-requires
 put_listing-requires c =

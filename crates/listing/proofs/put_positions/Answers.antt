@@ -6,15 +6,8 @@ use lib.ListN.{length}
 use Rattle.digits.specs.Laid.{laid}
 use Rattle.points.specs.Axes.{axes_of}
 use Rattle.points.specs.Point.{position_digits}
-use Rattle.points.proofs.Ones.{first_axis}
 use Rattle.points.proofs.Slotted.{list_next, list_done}
 use Rattle.listing.proofs.put_positions.Goals as goal
-
-pub offset_bounds-positions-axis : goal.offset_bounds-positions-axis
-offset_bounds-positions-axis c = omega (arith, first_axis c.loop-axis.axis-iterator.rest c.in-Some.ensures.steps)
-
-pub bounds-positions-axis : goal.bounds-positions-axis
-bounds-positions-axis c = first_axis c.loop-axis.axis-iterator.rest c.in-Some.ensures.steps
 
 pub loop-axis-preserved : goal.loop-axis-preserved
 loop-axis-preserved c =

@@ -5,16 +5,9 @@ use native.Mathlib.Omega.{arith}
 use lib.ListN.{length}
 use Rattle.digits.specs.Laid.{laid}
 use Rattle.points.specs.Axes.{axes_of}
-use Rattle.points.proofs.Ones.{first_axis}
 use Rattle.queries.specs.Replies.{records_digits}
 use Rattle.queries.proofs.Recorded.{record_next, record_done}
 use Rattle.queries.proofs.put_records.Goals as goal
-
-pub offset_bounds-records-axis : goal.offset_bounds-records-axis
-offset_bounds-records-axis c = omega (arith, first_axis c.loop-axis.axis-iterator.rest c.in-Some.ensures.steps)
-
-pub bounds-records-axis : goal.bounds-records-axis
-bounds-records-axis c = first_axis c.loop-axis.axis-iterator.rest c.in-Some.ensures.steps
 
 pub loop-axis-preserved : goal.loop-axis-preserved
 loop-axis-preserved c =

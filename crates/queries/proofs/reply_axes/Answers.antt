@@ -7,18 +7,6 @@ use Rattle.queries.specs.Replies.{axes_text}
 use Rattle.queries.proofs.Texts.{axes_laid, length_axes}
 use Rattle.queries.proofs.reply_axes.Goals as goal
 
-pub put_records-requires : goal.put_records-requires
-put_records-requires c = omega (arith, at_most c.args.pattern (omega arith))
-
-pub overflow_mul-ones : goal.overflow_mul-ones
-overflow_mul-ones c = omega (arith, at_most c.args.pattern (omega arith))
-
-pub overflow_add-ones : goal.overflow_add-ones
-overflow_add-ones c = omega (arith, at_most c.args.pattern (omega arith))
-
-pub close_reply-requires : goal.close_reply-requires
-close_reply-requires c = omega (arith, at_most c.args.pattern (omega arith))
-
 pub returns : goal.returns
 returns c =
     let a = c.args in

@@ -4,21 +4,9 @@ use lib.ListN.{length, take, drop, length-drop}
 use Rattle.digits.specs.Digits.{number_of}
 use Rattle.points.specs.Axes.{axes_of}
 use Rattle.points.specs.Point.{length_of, point_of}
-use Rattle.points.proofs.Measured.{least, rest_of_lem}
+use Rattle.points.proofs.Measured.{rest_of_lem}
 use Rattle.points.proofs.Parts.{all_drop}
 use Rattle.points.proofs.reading.read_point.Goals as goal
-
-pub slice_bounds-two_digits-end : goal.slice_bounds-two_digits-end
-slice_bounds-two_digits-end c = omega (arith, least c.args.digits.now)
-
-pub slice_bounds-four_digits-end : goal.slice_bounds-four_digits-end
-slice_bounds-four_digits-end c = omega (arith, least c.args.digits.now)
-
-pub slice_bounds-four_digits-end-2 : goal.slice_bounds-four_digits-end-2
-slice_bounds-four_digits-end-2 c = omega (arith, least c.args.digits.now)
-
-pub slice_bounds-four_digits-end-3 : goal.slice_bounds-four_digits-end-3
-slice_bounds-four_digits-end-3 c = omega (arith, least c.args.digits.now)
 
 pub read_positions-positions-requires : goal.read_positions-positions-requires
 unfolding length_of

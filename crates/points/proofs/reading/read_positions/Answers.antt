@@ -5,7 +5,6 @@ use lib.ListN.{length, length-append, length-set}
 use Rattle.digits.specs.Digits.{all_digits}
 use Rattle.digits.proofs.Inverse.{all_left, all_right}
 use Rattle.points.specs.Axes.{axes_of}
-use Rattle.points.proofs.Ones.{first_axis}
 use Rattle.points.proofs.Filled.{walk_first, walk_next, walk_done}
 use Rattle.points.proofs.reading.read_positions.Goals as goal
 
@@ -18,12 +17,6 @@ pub read_position-requires : goal.read_position-requires
 read_position-requires c =
     let chunk = c.in-Some.ensures.steps.1.1 in
     (chunk.1 ∙ c.loop-axis.invariant.0, all_left c.in-Some.field.now _ (ap all_digits (sym chunk.0) ∙ c.loop-axis.invariant.2))
-
-pub offset_bounds-positions-axis : goal.offset_bounds-positions-axis
-offset_bounds-positions-axis c = omega (arith, first_axis c.loop-axis.axis-iterator.a.rest c.in-Some.ensures.steps.0)
-
-pub bounds-positions-axis : goal.bounds-positions-axis
-bounds-positions-axis c = omega (arith, c.loop-axis.invariant.3, first_axis c.loop-axis.axis-iterator.a.rest c.in-Some.ensures.steps.0)
 
 pub loop-axis-preserved : goal.loop-axis-preserved
 loop-axis-preserved c =
