@@ -16,8 +16,7 @@ pub fn content(frame: &[u8]) -> &[u8]
     requires { 10 ≤ length frame.now }
     ensures { result.now ≡ content_in frame.now }
 {
-    let end = frame.len() - 4;
-    &frame[6..end]
+    &frame[6..frame.len() - 4]
 }
 
 // The number of a field of up to four digits.
@@ -33,7 +32,7 @@ fn count_of(field: &[u8]) -> usize
     requires { length field.now ≤ 4 }
     ensures { (result ≡ cond (eqb (length field.now) 0) 1 (number_of field.now)) × (result < 65536) }
 {
-    if field.len() == 0 {
+    if field.is_empty() {
         return 1;
     }
     small(field)
@@ -53,16 +52,13 @@ pub fn read_numbers(m: Message, content: &[u8]) -> Numbers
         × (result.start ≡ start_in m content.now) × (result.count ≡ count_in m content.now) }
     ensures start_bound { (result.start < 65536) × (result.count < 65536) }
 {
-    let p = m.program;
-    let s = p + m.start;
-    let c = s + m.count;
-    let program = small(&content[..p]);
-    let start = small(&content[p..s]);
-    let count = count_of(&content[s..c]);
+    let (program, rest) = content.split_at(m.program);
+    let (start, rest) = rest.split_at(m.start);
+    let (count, _) = rest.split_at(m.count);
     Numbers {
-        program,
-        start,
-        count,
+        program: small(program),
+        start: small(start),
+        count: count_of(count),
     }
 }
 
@@ -70,28 +66,14 @@ pub fn read_numbers(m: Message, content: &[u8]) -> Numbers
 fn is_points(follows: Follows) -> bool
     ensures { result ≡ have_points follows }
 {
-    match follows {
-        Follows::Nothing => false,
-        Follows::TenBytes => false,
-        Follows::AxisPattern => false,
-        Follows::Points => true,
-        Follows::RunBytes => false,
-        Follows::ChangeType => false,
-    }
+    matches!(follows, Follows::Points)
 }
 
 // A change type follows.
 fn is_type(follows: Follows) -> bool
     ensures { result ≡ have_type follows }
 {
-    match follows {
-        Follows::Nothing => false,
-        Follows::TenBytes => false,
-        Follows::AxisPattern => false,
-        Follows::Points => false,
-        Follows::RunBytes => false,
-        Follows::ChangeType => true,
-    }
+    matches!(follows, Follows::ChangeType)
 }
 
 // What follows the fields is as long as it should be, behind a count of units of so many bytes.
@@ -111,13 +93,11 @@ pub fn is_long(follows: Follows, unit: usize, count: usize, rest: &[u8]) -> bool
 }
 
 // A pattern is not 00, and each of its axes is fitted.
+#[tactic(auto, unfolding(table::specs::Table::pattern_fits))]
 fn fits_pattern(pattern: u8, fitted: u8) -> bool
     ensures { result ≡ pattern_fits fitted pattern }
 {
-    if pattern == 0 {
-        return false;
-    }
-    (pattern & fitted) == pattern
+    pattern != 0 && pattern & fitted == pattern
 }
 
 // So does the pattern of each of so many points.
@@ -125,15 +105,13 @@ fn fit_patterns(digits: &[u8], count: usize, fitted: u8) -> bool
     requires { (all_digits digits.now ≡ true) × (fills_of count digits.now ≡ true) }
     ensures { result ≡ patterns_fit fitted count digits.now }
 {
-    let mut at = 0;
-    let mut left = count;
-    while left > 0 {
-        let pattern = small(&digits[at..at + 2]) as u8;
+    let mut rest = digits;
+    for _ in 0..count {
+        let pattern = small(&rest[..2]) as u8;
         if !fits_pattern(pattern, fitted) {
             return false;
         }
-        at += point_length(&digits[at..]);
-        left -= 1;
+        rest = &rest[point_length(rest)..];
     }
     true
 }
@@ -143,10 +121,7 @@ pub fn is_unfit(follows: Follows, count: usize, rest: &[u8], fitted: u8) -> bool
     requires { have_points follows ≡ true → (all_digits rest.now ≡ true) × (fills_of count rest.now ≡ true) }
     ensures { result ≡ have_points follows && not (patterns_fit fitted count rest.now) }
 {
-    if !is_points(follows) {
-        return false;
-    }
-    !fit_patterns(rest, count, fitted)
+    is_points(follows) && !fit_patterns(rest, count, fitted)
 }
 
 // Refusal 108.
@@ -154,8 +129,5 @@ pub fn is_unlisted(follows: Follows, rest: &[u8]) -> bool
     requires { have_type follows ≡ true → length rest.now ≡ 1 }
     ensures { result ≡ have_type follows && not (leb (number_of rest.now) 1) }
 {
-    if !is_type(follows) {
-        return false;
-    }
-    !(small(rest) <= 1)
+    is_type(follows) && small(rest) > 1
 }

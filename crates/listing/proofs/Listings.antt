@@ -3,7 +3,7 @@ use Prim.Native.Nat.{ℕ, zero, suc, ◌+◌, ◌-◌, ◌*◌, ◌≤◌, ◌<�
 use mathlib.Core.Path.{◌≡◌, refl, sym, ap, subst, ◌∙◌}
 use mathlib.Core.List.{List, [], ◌∷◌, ◌++◌}
 use native.Mathlib.Omega.{arith}
-use native.Mathlib.Nat.{not-suc-le-zero, add-zero, zero-add, add_assoc}
+use native.Mathlib.Nat.{not-suc-le-zero, add-zero, add_assoc}
 use native.Mathlib.Numerals.{add-one}
 use lib.ListN.{length, drop, get_or, length-append}
 use lib.Seq.{drop-drop, get_or-drop}
@@ -110,12 +110,6 @@ module _ (slots : List ℕ) (i : ℕ) where
         let r : 1011 - digits - n ≡ 1011 - (digits + n) = omega arith in
         listed_more (1011 - digits) (count - i) (start + i) s (omega arith) (λ z. e (sym pattern_at ∙ z)) (rw l h)
         ∙ ap (λ (x : List (List ℕ)). listing (start + i) s ∷ x) (rw (l, r, fewer, next_slot, add_assoc))
-
--- nothing is listed yet
-pub at_first : (slots reply : List ℕ) (start count : ℕ) → Left (listed 1011 count start slots) (left_at start count 0 0 slots) reply reply 0 0
-at_first slots reply start count =
-    let n : count - 0 ≡ count = omega arith in
-    rw (n, add-zero) (record { bytes = refl; count = zero-add _; text = zero-add _; within = omega arith; same = refl })
 
 module _ {whole rest : List (List ℕ)} {reply₀ reply : List ℕ} {many digits : ℕ} (g : Left whole rest reply₀ reply many digits) where
   pub moved : {rest' : List (List ℕ)} → rest ≡ rest' → Left whole rest' reply₀ reply many digits

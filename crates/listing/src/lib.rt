@@ -9,23 +9,20 @@ ghost use Rattle.points.specs.Point.{position_digits, point_digits};
 ghost use Rattle.listing.specs.Listing.{listed, joined};
 
 use digits::put_number;
-use points::patterns::ones;
+use points::patterns::{Axes, ones};
 use points::point::Point;
 use points::units::Position;
 use slots::point_at;
 
 // Eight digits for each axis of a pattern, lowest first.
+#[tactic(auto, using(points::proofs::Ones::first_axis))]
 fn put_positions(reply: &mut [u8], at: usize, pattern: u8, positions: [Position; 8])
     requires { at + 8 * length (axes_of pattern) ≤ length reply.old }
     ensures { reply.new ≡ laid reply.old at (position_digits (axes_of pattern) positions) }
 {
-    let mut rest = pattern;
     let mut to = at;
-    while rest != 0 {
-        let axis = u8::trailing_zeros(rest) as usize;
-        let position = positions[axis];
-        put_number(reply, to, 8, position.bits() as u64);
-        rest = rest & (rest - 1);
+    for axis in Axes::of(pattern) {
+        put_number(reply, to, 8, u64::from(positions[axis].bits()));
         to += 8;
     }
 }
@@ -35,16 +32,11 @@ fn put_point_digits(reply: &mut [u8], at: usize, p: Point)
     requires { at + (14 + 8 * length (axes_of p.pattern)) ≤ length reply.old }
     ensures { reply.new ≡ laid reply.old at (point_digits p) }
 {
-    let pattern = p.pattern;
-    let acceleration = p.acceleration;
-    let deceleration = p.deceleration;
-    let speed = p.speed;
-    let positions = p.positions;
-    put_number(reply, at, 2, pattern as u64);
-    put_number(reply, at + 2, 4, acceleration.0 as u64);
-    put_number(reply, at + 6, 4, deceleration.0 as u64);
-    put_number(reply, at + 10, 4, speed.0 as u64);
-    put_positions(reply, at + 14, pattern, positions);
+    put_number(reply, at, 2, u64::from(p.pattern));
+    put_number(reply, at + 2, 4, u64::from(p.acceleration.0));
+    put_number(reply, at + 6, 4, u64::from(p.deceleration.0));
+    put_number(reply, at + 10, 4, u64::from(p.speed.0));
+    put_positions(reply, at + 14, p.pattern, p.positions);
 }
 
 // A listed point: its number in three digits, then its own.
@@ -67,6 +59,7 @@ pub struct Listed {
 }
 
 // The effective points among so many slots, the first one's number being start, up to the first that has no room.
+#[tactic(auto, using(points::proofs::Ones::at_most))]
 pub fn put_listings(reply: &mut [u8], slots: &[u8], start: usize, count: usize) -> Listed
     requires { (1024 ≤ length reply.old) × (start + count ≤ 1501) × (40 * count ≤ length slots.now) }
     ensures many_value { (result.many ≡ length (listed 1011 count start slots.now))
@@ -76,20 +69,19 @@ pub fn put_listings(reply: &mut [u8], slots: &[u8], start: usize, count: usize) 
 {
     let mut many = 0;
     let mut digits = 0;
-    let mut i = 0;
-    while i < count {
+    for i in 0..count {
         let at = i * Point::SLOT;
         let pattern = slots[at];
-        if pattern != 0 {
-            let size = 17 + 8 * ones(pattern);
-            if size > ROOM - digits {
-                break;
-            }
-            put_listing(reply, 9 + digits, start + i, point_at(slots, at));
-            many += 1;
-            digits += size;
+        if pattern == 0 {
+            continue;
         }
-        i += 1;
+        let size = 17 + 8 * ones(pattern);
+        if size > ROOM - digits {
+            break;
+        }
+        put_listing(reply, 9 + digits, start + i, point_at(slots, at));
+        many += 1;
+        digits += size;
     }
     Listed { many, digits }
 }

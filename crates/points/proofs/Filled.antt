@@ -1,20 +1,17 @@
 -- The walk from axis to axis over the digits of positions.
-use Prim.Native.Nat.{ℕ, zero, suc, ◌+◌, ◌-◌, ◌/◌, ◌%◌}
+use Prim.Native.Nat.{ℕ, zero, suc, ◌/◌, ◌%◌}
 use mathlib.Core.Path.{◌≡◌, refl, sym, ap, ◌∙◌}
 use mathlib.Core.Bool.{Bool, true, false, cond}
 use mathlib.Core.List.{List, [], ◌∷◌, ◌++◌}
 use native.Mathlib.Omega.{arith}
 use lib.Dec.{eqb}
 use lib.IntN.{pos}
-use lib.Bits.{bit_and}
-use lib.Count.{count_trailing_zeros}
 use lib.ListN.{length, take, drop, set, replicate, length-append}
-use lib.Seq.{set_at, append_snoc, drop-drop}
+use lib.Seq.{set_at, append_snoc, take-append_seam, drop-append_seam}
 use Rattle.points.specs.declared.units.Position.{Position}
 use Rattle.points.specs.Units.{position}
 use Rattle.points.specs.Axes.{axes_from, axes_of}
 use Rattle.points.specs.Point.{position_of, positions_of}
-use Rattle.points.proofs.Ones.{Turn, none}
 
 -- positions with those of the listed axes taken from the next digits
 abbrev pub fill_axes : List ℕ → List ℕ → List Position → List Position
@@ -53,14 +50,20 @@ unfolding axes_from positions_of
 filled zero p j digits pre e = refl
 filled (suc k) p j digits pre e = one_more_lem k p (filled k (p / 2)) j digits pre e
 
--- the walk's start, a turn, and its end
+-- before the first axis is walked to
 pub walk_first : (pattern : ℕ) (digits : List ℕ) → fill_axes (axes_of pattern) digits (replicate 8 (position (pos 0))) ≡ positions_of 8 pattern digits
 unfolding axes_of
 walk_first pattern digits = filled 8 pattern 0 digits [] refl
 
-pub walk_next : (rest at : ℕ) (digits : List ℕ) (ps : List Position) (v : Position) → Turn rest → v ≡ position_of (take 8 (drop at digits))
-    → fill_axes (axes_of (bit_and rest (rest - 1))) (drop (at + 8) digits) (set ps (count_trailing_zeros 8 rest) v) ≡ fill_axes (axes_of rest) (drop at digits) ps
-walk_next rest at digits ps v t e = rw (t.rest, e, ← drop-drop 8 at digits)
+-- one axis walked to, whose digits stand at the front
+pub walk_next : {axis : ℕ} {axes axes' left : List ℕ} {v : Position} (ps : List Position) (field left' : List ℕ) → axes ≡ axis ∷ axes' → left ≡ field ++ left' → length field ≡ 8 → v ≡ position_of field
+    → fill_axes axes' left' (set ps axis v) ≡ fill_axes axes left ps
+walk_next ps field left' p q l e =
+    let t : take 8 (field ++ left') ≡ field = ap (λ (n : ℕ). take n (field ++ left')) (sym l) ∙ take-append_seam field left' in
+    let d : drop 8 (field ++ left') ≡ left' = ap (λ (n : ℕ). drop n (field ++ left')) (sym l) ∙ drop-append_seam field left' in
+    rw (p, q, t, d, e)
 
-pub walk_done : (rest : ℕ) (digits : List ℕ) (ps : List Position) → rest ≡ 0 → fill_axes (axes_of rest) digits ps ≡ ps
-walk_done rest digits ps e = rw (e, none)
+-- all axes walked to
+pub walk_done : (axes digits : List ℕ) (ps : List Position) → length axes ≡ 0 → fill_axes axes digits ps ≡ ps
+walk_done [] digits ps e = refl
+walk_done (axis ∷ axes) digits ps e = absurd (omega arith)

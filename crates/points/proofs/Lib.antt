@@ -1,4 +1,3 @@
-pub mod Twos
 pub mod Below
 pub mod Ones
 pub mod Filled

@@ -8,8 +8,6 @@ use native.Mathlib.Nat.{not-suc-le-zero, add-zero, add_assoc}
 use native.Mathlib.Numerals.{add-one}
 use lib.Dec.{eqb}
 use lib.IntN.{pos}
-use lib.Bits.{bit_and}
-use lib.Count.{count_trailing_zeros}
 use lib.ListN.{length, take, drop, get_or, set, drop_of_length-le}
 use lib.Seq.{drop-cons, drop-drop, take-suc-set, get_or-drop, take_all}
 use mir.Syntax.{w32}
@@ -21,9 +19,7 @@ use Rattle.areas.specs.Bytes.{two_at, four_of, four_at}
 use Rattle.points.specs.declared.units.Position.{Position}
 use Rattle.points.specs.declared.point.Point.{Point}
 use Rattle.points.specs.Units.{position}
-use Rattle.points.specs.Axes.{axes_of}
 use Rattle.points.specs.Point.{positions_of, point_of, length_of, position_bytes, slot_of, slots_of, positions_in, effective_in, position_digits}
-use Rattle.points.proofs.Ones.{Turn, none}
 
 -- eight positions stored, one after the other
 pub store_next : (area after : List ℕ) (at axis : ℕ) (ps : List Position) → axis < length ps → at + axis * 4 ≤ length area
@@ -125,12 +121,12 @@ unfolding effective_in
 count_end n i area h = let e : n - i ≡ 0 = omega arith in rw e
 
 -- positions' digits laid, axis after axis
-pub list_next : (rest to : ℕ) (reply after : List ℕ) (ps : List Position) → Turn rest → to ≤ length reply
-    → after ≡ laid reply to (digits_of 8 (of_z w32 (get_or ps (count_trailing_zeros 8 rest) (position (pos 0))).0))
-    → laid after (to + 8) (position_digits (axes_of (bit_and rest (rest - 1))) ps) ≡ laid reply to (position_digits (axes_of rest) ps)
+pub list_next : (axis to : ℕ) (axes reply after : List ℕ) (ps : List Position) → to ≤ length reply
+    → after ≡ laid reply to (digits_of 8 (of_z w32 (get_or ps axis (position (pos 0))).0))
+    → laid after (to + 8) (position_digits axes ps) ≡ laid reply to (position_digits (axis ∷ axes) ps)
 unfolding position_digits
-list_next rest to reply after ps t h e = rw (e, t.rest) (laid_on reply _ _ to (to + 8) refl h)
+list_next axis to axes reply after ps h e = rw e (laid_on reply _ _ to (to + 8) refl h)
 
-pub list_done : (rest to : ℕ) (reply : List ℕ) (ps : List Position) → rest ≡ 0 → laid reply to (position_digits (axes_of rest) ps) ≡ reply
+pub list_done : (to : ℕ) (reply : List ℕ) (ps : List Position) → laid reply to (position_digits [] ps) ≡ reply
 unfolding position_digits
-list_done rest to reply ps e = rw (e, none) (laid_nothing reply to)
+list_done to reply ps = laid_nothing reply to

@@ -4,7 +4,7 @@ ghost use Rattle.points.specs.Point.{zero_point};
 use crate::units::{Acceleration, Position, Speed};
 
 // A point: its axis pattern, accelerations, speed, and the positions of eight axes.
-#[derive(Clone, Copy)]
+#[derive(Clone, Copy, Debug, PartialEq, Eq)]
 pub struct Point {
     pub pattern: u8,
     pub acceleration: Acceleration,

@@ -3,11 +3,11 @@ ghost use Rattle.digits.specs.Digits.{all_digits, number_of};
 ghost use Rattle.points.specs.Axes.{axes_of};
 ghost use Rattle.points.specs.Point.{position_of, positions_of, point_of, length_of, fills_of};
 
-use crate::patterns::ones;
+use crate::patterns::{Axes, ones};
 use crate::point::Point;
 use crate::units::{Acceleration, Position, Speed};
 
-// The number that two digits write.
+// The number that two digits write. It stays beside `four_digits`: one generic function had to go by `try_from`, whose failure no digits reach.
 fn two_digits(field: &[u8]) -> u8
     requires { (length field.now ≡ 2) × (all_digits field.now ≡ true) }
     ensures { result ≡ number_of field.now }
@@ -32,24 +32,20 @@ fn read_position(field: &[u8]) -> Position
 }
 
 // The positions of a pattern's axes, lowest first; those of absent axes are 0.
+#[tactic(auto, using(crate::proofs::Ones::first_axis))]
 fn read_positions(pattern: u8, digits: &[u8]) -> [Position; 8]
     requires { (8 * length (axes_of pattern) ≤ length digits.now) × (all_digits digits.now ≡ true) }
     ensures { result ≡ positions_of 8 pattern digits.now }
 {
-    let zero = Point::zero();
-    let mut positions = zero.positions;
-    let mut rest = pattern;
-    let mut at = 0;
-    while rest != 0 {
-        let axis = u8::trailing_zeros(rest) as usize;
-        positions[axis] = read_position(&digits[at..at + 8]);
-        rest = rest & (rest - 1);
-        at += 8;
+    let mut positions = Point::zero().positions;
+    for (axis, field) in Axes::of(pattern).zip(digits.chunks_exact(8)) {
+        positions[axis] = read_position(field);
     }
     positions
 }
 
 // How many digits the point at the front has, by its own pattern.
+#[tactic(auto, using(crate::proofs::Ones::at_most))]
 pub fn point_length(digits: &[u8]) -> usize
     requires { (2 ≤ length digits.now) × (all_digits digits.now ≡ true) }
     ensures { result ≡ length_of digits.now }
@@ -58,6 +54,7 @@ pub fn point_length(digits: &[u8]) -> usize
 }
 
 // The point at the front.
+#[tactic(auto, using(crate::proofs::Measured::least))]
 pub fn read_point(digits: &[u8]) -> Point
     requires { (length_of digits.now ≤ length digits.now) × (all_digits digits.now ≡ true) }
     ensures { result ≡ point_of digits.now }
@@ -81,18 +78,15 @@ pub fn fills(digits: &[u8], count: usize) -> bool
     requires { all_digits digits.now ≡ true }
     ensures { result ≡ fills_of count digits.now }
 {
-    let mut at = 0;
-    let mut left = count;
-    while left > 0 {
-        if digits.len() - at < 14 {
+    let mut rest = digits;
+    for _ in 0..count {
+        if rest.len() < 14 {
             return false;
         }
-        let size = point_length(&digits[at..]);
-        if digits.len() - at < size {
+        let Some((_, behind)) = rest.split_at_checked(point_length(rest)) else {
             return false;
-        }
-        at += size;
-        left -= 1;
+        };
+        rest = behind;
     }
-    at == digits.len()
+    rest.is_empty()
 }

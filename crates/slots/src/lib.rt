@@ -28,11 +28,8 @@ fn put_positions(area: &mut [u8], at: usize, positions: [Position; 8])
     requires { at + 32 ≤ length area.old }
     ensures { area.new ≡ laid area.old at (position_bytes positions) }
 {
-    let mut axis = 0;
-    while axis < 8 {
-        let position = positions[axis];
+    for (axis, position) in positions.iter().enumerate() {
         put_four(area, at + axis * Point::POSITION, position.bits());
-        axis += 1;
     }
 }
 
@@ -41,16 +38,11 @@ pub fn put_point(area: &mut [u8], at: usize, p: Point)
     requires { at + 40 ≤ length area.old }
     ensures { area.new ≡ laid area.old at (slot_of p) }
 {
-    let pattern = p.pattern;
-    let acceleration = p.acceleration;
-    let deceleration = p.deceleration;
-    let speed = p.speed;
-    let positions = p.positions;
-    put_pattern(area, at + Point::PATTERN, pattern);
-    put_two(area, at + Point::ACCELERATION, acceleration.0);
-    put_two(area, at + Point::DECELERATION, deceleration.0);
-    put_two(area, at + Point::SPEED, speed.0);
-    put_positions(area, at + Point::POSITIONS, positions);
+    put_pattern(area, at + Point::PATTERN, p.pattern);
+    put_two(area, at + Point::ACCELERATION, p.acceleration.0);
+    put_two(area, at + Point::DECELERATION, p.deceleration.0);
+    put_two(area, at + Point::SPEED, p.speed.0);
+    put_positions(area, at + Point::POSITIONS, p.positions);
 }
 
 // So many points that digits write, laid into their slots; all of them were read before (`fills`).
@@ -58,12 +50,10 @@ pub fn lay_points(area: &mut [u8], at: usize, digits: &[u8], count: usize)
     requires { (at + 40 * count ≤ length area.old) × (all_digits digits.now ≡ true) × (fills_of count digits.now ≡ true) }
     ensures { area.new ≡ laid area.old at (slots_of count digits.now) }
 {
-    let mut i = 0;
-    let mut from = 0;
-    while i < count {
-        put_point(area, at + i * Point::SLOT, read_point(&digits[from..]));
-        from += point_length(&digits[from..]);
-        i += 1;
+    let mut rest = digits;
+    for i in 0..count {
+        put_point(area, at + i * Point::SLOT, read_point(rest));
+        rest = &rest[point_length(rest)..];
     }
 }
 
@@ -72,12 +62,9 @@ fn positions_at(area: &[u8], at: usize) -> [Position; 8]
     requires { at + 32 ≤ length area.now }
     ensures { result ≡ positions_in 8 (drop at area.now) }
 {
-    let zero = Point::zero();
-    let mut positions = zero.positions;
-    let mut next = 0;
-    while next < 8 {
-        positions[next] = Position::of(four_at(area, at + next * Point::POSITION));
-        next += 1;
+    let mut positions = Point::zero().positions;
+    for (axis, position) in positions.iter_mut().enumerate() {
+        *position = Position::of(four_at(area, at + axis * Point::POSITION));
     }
     positions
 }
@@ -87,17 +74,12 @@ pub fn point_at(area: &[u8], at: usize) -> Point
     requires { at + 40 ≤ length area.now }
     ensures { result ≡ point_in (drop at area.now) }
 {
-    let pattern = area[at + Point::PATTERN];
-    let acceleration = Acceleration(two_at(area, at + Point::ACCELERATION));
-    let deceleration = Acceleration(two_at(area, at + Point::DECELERATION));
-    let speed = Speed(two_at(area, at + Point::SPEED));
-    let positions = positions_at(area, at + Point::POSITIONS);
     Point {
-        pattern,
-        acceleration,
-        deceleration,
-        speed,
-        positions,
+        pattern: area[at + Point::PATTERN],
+        acceleration: Acceleration(two_at(area, at + Point::ACCELERATION)),
+        deceleration: Acceleration(two_at(area, at + Point::DECELERATION)),
+        speed: Speed(two_at(area, at + Point::SPEED)),
+        positions: positions_at(area, at + Point::POSITIONS),
     }
 }
 
@@ -106,13 +88,11 @@ pub fn count_effective(area: &[u8], n: usize) -> usize
     requires { (length area.now ≡ 40 * n) × (n ≤ 1500) }
     ensures { result ≡ effective_in n area.now }
 {
-    let mut count: usize = 0;
-    let mut i = 0;
-    while i < n {
+    let mut count = 0;
+    for i in 0..n {
         if area[i * Point::SLOT] != 0 {
             count += 1;
         }
-        i += 1;
     }
     count
 }

@@ -1,13 +1,8 @@
-use Prim.Native.Nat.{◌≤◌}
-use mathlib.Core.Path.{◌≡◌}
-use lib.ListN.{length, drop}
-use mathlib.Core.Bool.{true}
+use Rattle.std.proofs.Common.{◌≡◌, true, ◌-◌}
+use Rattle.digits.specs.Digits.{all_digits}
 use Rattle.points.specs.Point.{fills_of}
 use Rattle.table.specs.Table.{patterns_fit}
 use Rattle.contents.proofs.fit_patterns.Given as goal
 
-abbrev pub invariant-loop-left : goal.invariant-loop-left
-invariant-loop-left l = (l.at ≤ length l.digits) × (fills_of l.left (drop l.at l.digits) ≡ true) × (patterns_fit l.fitted l.left (drop l.at l.digits) ≡ patterns_fit l.fitted l.count l.digits)
-
-abbrev pub decreases-loop-left : goal.decreases-loop-left
-decreases-loop-left l = l.left
+abbrev pub invariant-loop : goal.invariant-loop
+invariant-loop l = (all_digits l.rest ≡ true) × (fills_of (l.count - l.counter) l.rest ≡ true) × (patterns_fit l.fitted (l.count - l.counter) l.rest ≡ patterns_fit l.fitted l.count l.digits)

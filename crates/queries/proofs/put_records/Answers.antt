@@ -1,63 +1,24 @@
-use Prim.Native.Nat.{◌+◌, ◌≤◌}
-use mathlib.Core.Path.{refl, sym, ap, ◌∙◌}
+use Prim.Native.Nat.{ℕ}
+use mathlib.Core.Path.{sym, ap, ◌∙◌}
+use mathlib.Core.List.{List}
 use native.Mathlib.Omega.{arith}
 use lib.ListN.{length}
-use borrow.Author.Rules.{rules}
-use Rattle.points.proofs.Ones.{Turn, turn_of}
+use Rattle.digits.specs.Laid.{laid}
+use Rattle.points.specs.Axes.{axes_of}
+use Rattle.queries.specs.Replies.{records_digits}
 use Rattle.queries.proofs.Recorded.{record_next, record_done}
 use Rattle.queries.proofs.put_records.Goals as goal
 
-pub loop-rest-init : goal.loop-rest-init
-loop-rest-init c = (omega arith, search rules, omega arith, refl, refl)
-
-pub overflow_cast-axis : goal.overflow_cast-axis
-overflow_cast-axis c =
-    let turn : Turn c.loop-rest.rest = turn_of c.loop-rest.rest c.loop-rest-test.true c.loop-rest.invariant.0 in
-    omega (arith, turn.index)
-
-pub offset_bounds-records-axis : goal.offset_bounds-records-axis
-offset_bounds-records-axis c =
-    let turn : Turn c.loop-rest.rest = turn_of c.loop-rest.rest c.loop-rest-test.true c.loop-rest.invariant.0 in
-    omega (arith, turn.index)
-
-pub bounds-records-axis : goal.bounds-records-axis
-bounds-records-axis c =
-    let turn : Turn c.loop-rest.rest = turn_of c.loop-rest.rest c.loop-rest-test.true c.loop-rest.invariant.0 in
-    omega (arith, turn.index)
-
-pub put_record-requires : goal.put_record-requires
-put_record-requires c =
-    let turn : Turn c.loop-rest.rest = turn_of c.loop-rest.rest c.loop-rest-test.true c.loop-rest.invariant.0 in
-    let room : c.loop-rest.to + 16 ≤ length c.loop-rest.reply = omega (arith, ap length turn.rest) in
-    omega (arith, room)
-
-pub overflow_sub-rest : goal.overflow_sub-rest
-overflow_sub-rest c =
-    let turn : Turn c.loop-rest.rest = turn_of c.loop-rest.rest c.loop-rest-test.true c.loop-rest.invariant.0 in
-    omega (arith, turn.falls)
-
-pub overflow_add-to : goal.overflow_add-to
-overflow_add-to c =
-    let turn : Turn c.loop-rest.rest = turn_of c.loop-rest.rest c.loop-rest-test.true c.loop-rest.invariant.0 in
-    let room : c.loop-rest.to + 16 ≤ length c.loop-rest.reply = omega (arith, ap length turn.rest) in
-    omega (arith, room)
-
-pub loop-rest-smaller : goal.loop-rest-smaller
-loop-rest-smaller c =
-    let turn : Turn c.loop-rest.rest = turn_of c.loop-rest.rest c.loop-rest-test.true c.loop-rest.invariant.0 in
-    turn.falls
-
-pub loop-rest-preserved : goal.loop-rest-preserved
-loop-rest-preserved c =
-    let turn : Turn c.loop-rest.rest = turn_of c.loop-rest.rest c.loop-rest-test.true c.loop-rest.invariant.0 in
-    let t = turn in
-    let p = c.put_record in
-    let e = record_next c.loop-rest.rest c.loop-rest.to c.loop-rest.reply _ c.args.records t (omega arith) p.ensures in
-    (omega (arith, t.falls), c.loop-rest.invariant.1, omega (arith, ap length t.rest, p.auto.reply), e ∙ c.loop-rest.invariant.3, p.auto.reply ∙ c.loop-rest.invariant.4)
-
-pub shape_of-reply : goal.shape_of-reply
-shape_of-reply c = c.loop-rest.invariant.4
+pub loop-axis-preserved : goal.loop-axis-preserved
+loop-axis-preserved c =
+    let l = c.loop-axis in
+    let next = c.in-Some.ensures.steps in
+    let many = ap length next in
+    let laid_here = record_next c.in-Some.axis l.to (axes_of c.next.new.self.rest) l.reply _ c.args.records (omega arith) c.put_record.ensures in
+    let same = ap (λ (axes : List ℕ). laid l.reply l.to (records_digits axes c.args.records)) (sym next) in
+    (omega (arith, c.put_record.auto.reply), laid_here ∙ same ∙ l.invariant.1, c.put_record.auto.reply ∙ l.invariant.2)
 
 pub returns : goal.returns
 returns c =
-    sym (record_done c.loop-rest.rest c.loop-rest.to c.loop-rest.reply c.args.records c.loop-rest-test.false) ∙ c.loop-rest.invariant.3
+    let l = c.loop-axis in
+    sym (record_done l.to l.reply c.args.records) ∙ ap (λ (axes : List ℕ). laid l.reply l.to (records_digits axes c.args.records)) (sym c.in-None.ensures.steps.0) ∙ l.invariant.1

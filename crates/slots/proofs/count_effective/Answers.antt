@@ -8,7 +8,7 @@ use Rattle.points.proofs.Slotted.{count_at, count_end}
 use Rattle.slots.proofs.count_effective.Goals as goal
 
 pub loop-i-init : goal.loop-i-init
-loop-i-init c = (search rules, search rules, rw (sub-zero, zero-add))
+loop-i-init c = (search rules, rw (sub-zero, zero-add))
 
 pub loop-i-preserved : goal.loop-i-preserved
 loop-i-preserved c =

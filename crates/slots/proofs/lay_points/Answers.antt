@@ -1,70 +1,51 @@
 use Prim.Native.Nat.{ℕ, ◌+◌, ◌-◌, ◌*◌, ◌≤◌}
-use mathlib.Core.Path.{◌≡◌, refl, sym, ap, ◌∙◌}
+use mathlib.Core.Path.{◌≡◌, sym, ap, ◌∙◌}
 use native.Mathlib.Omega.{arith}
-use lib.ListN.{length, drop}
-use borrow.Author.Rules.{rules}
-use native.Mathlib.Nat.{add-zero, sub-zero}
-use lib.ListN.{length-drop}
-use lib.Seq.{drop-drop}
-use mathlib.Core.Bool.{true}
-use Rattle.digits.specs.Digits.{all_digits}
-use Rattle.digits.specs.Laid.{laid}
-use Rattle.points.specs.Point.{length_of, point_of, slot_of}
+use lib.ListN.{length, take, drop}
+use Rattle.points.specs.Point.{length_of}
 use Rattle.points.proofs.Measured.{least, fills_next, fills_front, rest_of_lem}
 use Rattle.points.proofs.Parts.{all_drop}
 use Rattle.points.proofs.Slotted.{lay_next, lay_done}
 use Rattle.slots.proofs.lay_points.Goals as goal
 
-pub loop-i-init : goal.loop-i-init
-loop-i-init c = (search rules, search rules, rw sub-zero c.requires.2, rw (add-zero, sub-zero), refl)
-
 pub read_point-requires : goal.read_point-requires
 read_point-requires c =
-    let front : length_of (drop c.loop-i.from c.args.digits.now) ≤ length (drop c.loop-i.from c.args.digits.now) = fills_front (c.args.count - c.loop-i.i) _ (omega arith) c.loop-i.invariant.2 in
-    let digits-left : all_digits (drop c.loop-i.from c.args.digits.now) ≡ true = all_drop c.loop-i.from c.args.digits.now c.requires.1 in
-    rw (rest_of_lem c.loop-i.from c.args.digits.now) (front, digits-left)
+    let i = c.loop-i.invariant in
+    (fills_front (c.args.count - c.loop-i.i) c.loop-i.rest.now (omega arith) i.1, i.0)
 
-pub point_length-from-requires : goal.point_length-from-requires
-point_length-from-requires c =
-    let front : length_of (drop c.loop-i.from c.args.digits.now) ≤ length (drop c.loop-i.from c.args.digits.now) = fills_front (c.args.count - c.loop-i.i) _ (omega arith) c.loop-i.invariant.2 in
-    let digits-left : all_digits (drop c.loop-i.from c.args.digits.now) ≡ true = all_drop c.loop-i.from c.args.digits.now c.requires.1 in
-    let s = drop c.loop-i.from c.args.digits.now in
-    rw (rest_of_lem c.loop-i.from c.args.digits.now) (omega (arith, front, least s), digits-left)
+pub point_length-requires : goal.point_length-requires
+point_length-requires c =
+    let front : length_of c.loop-i.rest.now ≤ length c.loop-i.rest.now = fills_front (c.args.count - c.loop-i.i) _ (omega arith) c.loop-i.invariant.1 in
+    (omega (arith, front, least c.loop-i.rest.now), c.loop-i.invariant.0)
 
-pub overflow_add-from : goal.overflow_add-from
-overflow_add-from c =
-    let front : length_of (drop c.loop-i.from c.args.digits.now) ≤ length (drop c.loop-i.from c.args.digits.now) = fills_front (c.args.count - c.loop-i.i) _ (omega arith) c.loop-i.invariant.2 in
-    let size : c.point_length-from.result ≡ length_of (drop c.loop-i.from c.args.digits.now) = c.point_length-from.ensures ∙ ap length_of (rest_of_lem c.loop-i.from c.args.digits.now) in
-    let d = c.args.digits.now in
-    omega (arith, size, front, length-drop c.loop-i.from d)
+pub slice_bounds-rest-count : goal.slice_bounds-rest-count
+slice_bounds-rest-count c =
+    let front : length_of c.loop-i.rest.now ≤ length c.loop-i.rest.now = fills_front (c.args.count - c.loop-i.i) _ (omega arith) c.loop-i.invariant.1 in
+    omega (arith, c.point_length.ensures, front)
+
+pub slice_bounds-rest-start : goal.slice_bounds-rest-start
+slice_bounds-rest-start c =
+    let front : length_of c.loop-i.rest.now ≤ length c.loop-i.rest.now = fills_front (c.args.count - c.loop-i.i) _ (omega arith) c.loop-i.invariant.1 in
+    omega (arith, c.point_length.ensures, front)
 
 pub loop-i-preserved : goal.loop-i-preserved
 loop-i-preserved c =
-    let front : length_of (drop c.loop-i.from c.args.digits.now) ≤ length (drop c.loop-i.from c.args.digits.now) = fills_front (c.args.count - c.loop-i.i) _ (omega arith) c.loop-i.invariant.2 in
-    let size : c.point_length-from.result ≡ length_of (drop c.loop-i.from c.args.digits.now) = c.point_length-from.ensures ∙ ap length_of (rest_of_lem c.loop-i.from c.args.digits.now) in
-    let l = c.loop-i in
     let a = c.args in
-    let d = a.digits.now in
-    let s = drop l.from d in
-    let z = size in
-    let k = front in
-    let n : length s ≡ length d - l.from = length-drop l.from d in
-    let m : a.count - l.i - 1 ≡ a.count - (l.i + 1) = omega arith in
-    let w : a.at + l.i * 40 + 40 ≡ a.at + (l.i + 1) * 40 = omega arith in
-    let e : drop (length_of s) s ≡ drop (l.from + c.point_length-from.result) d = ap (λ (x : ℕ). drop x s) (sym z) ∙ drop-drop c.point_length-from.result l.from d in
-    let p = c.put_point in
-    let q : p.new.area ≡ laid l.area (a.at + l.i * 40) (slot_of (point_of s)) = p.ensures ∙ rw (c.read_point.ensures, rest_of_lem l.from d) in (
-      omega arith,
-      omega arith,
-      rw (← m, ← e) (sym (fills_next (a.count - l.i) s (omega arith) k) ∙ l.invariant.2),
-      rw (← m, ← e, ← w) (lay_next (a.count - l.i) l.area _ s (a.at + l.i * 40) (omega arith) (omega arith) q ∙ l.invariant.3),
-      p.auto.area ∙ l.invariant.4,
+    let l = c.loop-i in
+    let rest = l.rest.now in
+    let front : length_of rest ≤ length rest = fills_front (a.count - l.i) rest (omega arith) l.invariant.1 in
+    let behind : take (length rest - c.point_length.result) (drop c.point_length.result rest) ≡ drop (length_of rest) rest =
+    rest_of_lem c.point_length.result rest ∙ ap (λ (n : ℕ). drop n rest) c.point_length.ensures in
+    let left : a.count - l.i - 1 ≡ a.count - (l.i + 1) = omega arith in
+    let next : a.at + l.i * 40 + 40 ≡ a.at + (l.i + 1) * 40 = omega arith in
+    let p = c.put_point in (
+      rw behind (all_drop (length_of rest) rest l.invariant.0),
+      rw (behind, ← left) (sym (fills_next (a.count - l.i) rest (omega arith) front) ∙ l.invariant.1),
+      rw (behind, ← left, ← next) (lay_next (a.count - l.i) l.area _ rest (a.at + l.i * 40) (omega arith) (omega arith) (p.ensures ∙ rw c.read_point.ensures) ∙ l.invariant.2),
+      p.auto.area ∙ l.invariant.3,
     )
-
-pub shape_of-area : goal.shape_of-area
-shape_of-area c = c.loop-i.invariant.4
 
 pub returns : goal.returns
 returns c =
-    let a = c.args in
-    sym (lay_done (a.count - c.loop-i.i) c.loop-i.area (drop c.loop-i.from a.digits.now) (a.at + c.loop-i.i * 40) (omega arith)) ∙ c.loop-i.invariant.3
+    let l = c.loop-i in
+    sym (lay_done (c.args.count - l.i) l.area l.rest.now (c.args.at + l.i * 40) (omega arith)) ∙ l.invariant.2

@@ -1,77 +1,40 @@
-use Prim.Native.Nat.{◌+◌, ◌≤◌}
-use mathlib.Core.Path.{sym, ap, ◌∙◌}
+use mathlib.Core.Path.{◌≡◌, refl, sym, ap, ◌∙◌}
+use mathlib.Core.Logic.{⊎_elim}
 use native.Mathlib.Omega.{arith}
-use lib.ListN.{length, drop}
-use native.Mathlib.Nat.{add-sub_cancel_left}
-use lib.Seq.{length-take-le}
-use lib.ListN.{length-drop}
-use Rattle.points.proofs.Ones.{Turn, turn_of}
+use lib.ListN.{length, length-append, length-set}
+use Rattle.digits.specs.Digits.{all_digits}
+use Rattle.digits.proofs.Inverse.{all_left, all_right}
+use Rattle.points.specs.Axes.{axes_of}
 use Rattle.points.proofs.Filled.{walk_first, walk_next, walk_done}
-use Rattle.points.proofs.Parts.{all_part}
 use Rattle.points.proofs.reading.read_positions.Goals as goal
 
-pub loop-rest-init : goal.loop-rest-init
-loop-rest-init c =
-    let a = c.args in
-    (omega arith, omega arith, rw c.zero-zero.ensures (walk_first a.pattern a.digits.now))
-
-pub overflow_cast-axis : goal.overflow_cast-axis
-overflow_cast-axis c =
-    let turn : Turn c.loop-rest.rest = turn_of c.loop-rest.rest c.loop-rest-test.true c.loop-rest.invariant.0 in
-    omega (arith, turn.index)
-
-pub overflow_add-at : goal.overflow_add-at
-overflow_add-at c =
-    let turn : Turn c.loop-rest.rest = turn_of c.loop-rest.rest c.loop-rest-test.true c.loop-rest.invariant.0 in
-    let room : c.loop-rest.at + 8 ≤ length c.args.digits.now = omega (arith, ap length turn.rest) in
-    omega (arith, room)
-
-pub slice_bounds-read_position-end : goal.slice_bounds-read_position-end
-slice_bounds-read_position-end c =
-    let turn : Turn c.loop-rest.rest = turn_of c.loop-rest.rest c.loop-rest-test.true c.loop-rest.invariant.0 in
-    let room : c.loop-rest.at + 8 ≤ length c.args.digits.now = omega (arith, ap length turn.rest) in
-    omega (arith, room)
+pub loop-axis-init : goal.loop-axis-init
+loop-axis-init c =
+    rw (c.into_iter-axis-iterator.ensures.into_iter_gives, c.zip-axis-items.ensures.first, c.zip-axis-items.ensures.second, c.of.ensures, c.chunks_exact.ensures.rest, c.zero.ensures)
+    (c.chunks_exact.ensures.size, c.requires.0, c.requires.1, refl, walk_first c.args.pattern c.args.digits.now)
 
 pub read_position-requires : goal.read_position-requires
 read_position-requires c =
-    let turn : Turn c.loop-rest.rest = turn_of c.loop-rest.rest c.loop-rest-test.true c.loop-rest.invariant.0 in
-    let room : c.loop-rest.at + 8 ≤ length c.args.digits.now = omega (arith, ap length turn.rest) in
-    let s = c.args.digits.now in
-    rw (add-sub_cancel_left) (length-take-le 8 (drop c.loop-rest.at s) (simp length-drop (omega (arith, room))), all_part 8 c.loop-rest.at s c.requires.1)
+    let chunk = c.in-Some.ensures.steps.1.1 in
+    (chunk.1 ∙ c.loop-axis.invariant.0, all_left c.in-Some.field.now _ (ap all_digits (sym chunk.0) ∙ c.loop-axis.invariant.2))
 
-pub offset_bounds-positions-axis : goal.offset_bounds-positions-axis
-offset_bounds-positions-axis c =
-    let turn : Turn c.loop-rest.rest = turn_of c.loop-rest.rest c.loop-rest-test.true c.loop-rest.invariant.0 in
-    omega (arith, turn.index)
-
-pub bounds-positions-axis : goal.bounds-positions-axis
-bounds-positions-axis c =
-    let turn : Turn c.loop-rest.rest = turn_of c.loop-rest.rest c.loop-rest-test.true c.loop-rest.invariant.0 in
-    omega (arith, turn.index)
-
-pub overflow_sub-rest : goal.overflow_sub-rest
-overflow_sub-rest c =
-    let turn : Turn c.loop-rest.rest = turn_of c.loop-rest.rest c.loop-rest-test.true c.loop-rest.invariant.0 in
-    omega (arith, turn.falls)
-
-pub overflow_add-at-in-loop-rest : goal.overflow_add-at-in-loop-rest
-overflow_add-at-in-loop-rest c =
-    let turn : Turn c.loop-rest.rest = turn_of c.loop-rest.rest c.loop-rest-test.true c.loop-rest.invariant.0 in
-    let room : c.loop-rest.at + 8 ≤ length c.args.digits.now = omega (arith, ap length turn.rest) in
-    omega (arith, room)
-
-pub loop-rest-smaller : goal.loop-rest-smaller
-loop-rest-smaller c =
-    let turn : Turn c.loop-rest.rest = turn_of c.loop-rest.rest c.loop-rest-test.true c.loop-rest.invariant.0 in
-    turn.falls
-
-pub loop-rest-preserved : goal.loop-rest-preserved
-loop-rest-preserved c =
-    let turn : Turn c.loop-rest.rest = turn_of c.loop-rest.rest c.loop-rest-test.true c.loop-rest.invariant.0 in
-    let s = c.args.digits.now in
-    let t = turn in
-    (omega (arith, t.falls), omega (arith, ap length t.rest), walk_next c.loop-rest.rest c.loop-rest.at s c.loop-rest.positions _ t (c.read_position.ensures ∙ rw add-sub_cancel_left) ∙ c.loop-rest.invariant.2)
+pub loop-axis-preserved : goal.loop-axis-preserved
+loop-axis-preserved c =
+    let s = c.in-Some.ensures.steps in
+    let i = c.loop-axis.invariant in
+    let chunk = s.1.1 in
+    let l = chunk.1 ∙ i.0 in
+    let n = ap length s.0 in
+    let m = ap length chunk.0 ∙ length-append c.in-Some.field.now _ in (
+      s.1.0 ∙ i.0,
+      omega arith,
+      all_right c.in-Some.field.now _ (ap all_digits (sym chunk.0) ∙ i.2),
+      simp length-set i.3,
+      walk_next c.loop-axis.positions _ _ s.0 chunk.0 l c.read_position.ensures ∙ i.4,
+    )
 
 pub returns : goal.returns
 returns c =
-    sym (walk_done c.loop-rest.rest (drop c.loop-rest.at c.args.digits.now) c.loop-rest.positions c.loop-rest-test.false) ∙ c.loop-rest.invariant.2
+    let i = c.loop-axis.invariant in
+    let none : length (axes_of c.loop-axis.axis-iterator.a.rest) ≡ 0 = ⊎_elim (λ e. ap length e.1.0) (λ e. let k = e.1.1.0 in omega arith) c.in-None.ensures.steps in
+    sym (walk_done _ _ c.loop-axis.positions none) ∙ i.4
