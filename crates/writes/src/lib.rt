@@ -2,9 +2,8 @@
 // document 02, a).
 #![tactic(auto)]
 
-ghost use Rattle.std.specs.Prelude.{◌≡◌, true, [], ◌∷◌, ◌+◌, ◌*◌, ◌<◌, length, replicate};
+ghost use Rattle.std.specs.Prelude.{◌≡◌, true, [], ◌∷◌, ◌*◌, length, replicate};
 ghost use Rattle.digits.specs.Digits.{all_digits, number_of};
-ghost use Rattle.digits.specs.Laid.{laid};
 ghost use Rattle.pairs.specs.Pairs.{bytes_in};
 ghost use Rattle.points.specs.Point.{fills_of, slots_of};
 ghost use Rattle.writes.specs.Writes.{Ready, Entered, Written};
