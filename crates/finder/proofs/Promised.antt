@@ -18,8 +18,7 @@ use Rattle.finder.specs.declared.Found.{Found}
 use Rattle.finder.specs.declared.Found.TheVariants.{Frame, Nothing, Wait, TooLong}
 use Rattle.finder.specs.Find.{place_of, pair_first, pair_of, begins_test_call, skipped, skip_of, from_it, window_of, by_length, by_pair, find_in, part_of}
 use Rattle.finder.specs.Laws.{FullWindow, Head, last_two, Quiet, find_before, later_by, TestCallRule, FoundAsBefore}
-use Rattle.finder.proofs.Search.{rest_is, stands_there}
-use Rattle.finder.proofs.Turns.{not_CR}
+use Rattle.finder.proofs.Search.{not_CR, rest_is, stands_there}
 use Rattle.finder.proofs.Finding.{is_cut, is_whole, is_long}
 
 pub full_window : (received : List ℕ) → FullWindow received

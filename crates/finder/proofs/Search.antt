@@ -10,23 +10,15 @@ use native.Mathlib.Nat.{zero-add}
 use lib.ListN.{length, take, drop, get_or, drop_of_length-le, length-drop}
 use lib.Seq.{drop-cons, drop-drop, take_all, get_or-drop}
 use lib.Dec.{eqb}
-use borrow.Author.Tests.{eq-eqb, eqb-true}
+use borrow.Author.Tests.{eq-eqb, ne_eqb, eqb-true}
 use Rattle.frames.specs.Frame.{command, CR, LF}
 use Rattle.frames.proofs.Bools.{and_false}
 use Rattle.finder.specs.Find.{place_of, pair_first, pair_of, skipped, skip_of}
+use Rattle.finder.proofs.Blocks.{place_within}
 
 -- what stands from a place on, as the code lends it
 pub rest_is : (s : List ℕ) (k : ℕ) → take (length s - k) (drop k s) ≡ drop k s
 rest_is s k = take_all (length s - k) (drop k s) (simp length-drop (omega arith))
-
--- the place is the length at most, and short of it the byte stands there
-place_within : (b : ℕ) (s : List ℕ) → place_of b s ≤ length s
-place_within b [] = omega arith
-place_within b (x ∷ s) = go (eqb x b) (place_within b s)
-  where
-    go : (t : Bool) → place_of b s ≤ length s → cond t 0 (suc (place_of b s)) ≤ suc (length s)
-    go true ih = omega arith
-    go false ih = omega arith
 
 -- from a place on, as the code looks on: within, and the place is what the search had left
 pub place_on : (b : ℕ) (s : List ℕ) (i r : ℕ) → i ≤ length s → r ≡ place_of b (take (length s - i) (drop i s)) → (i + r ≤ length s) × (r ≡ place_of b (drop i s))
@@ -34,6 +26,7 @@ place_on b s i r h e =
     let f : r ≡ place_of b (drop i s) = e ∙ ap (place_of b) (rest_is s i) in
     (omega (arith, f, simp length-drop at (place_within b (drop i s)), h), f)
 
+-- short of the length the byte stands there
 pub stands_there : (b : ℕ) (s : List ℕ) → place_of b s < length s → get_or s (place_of b s) 0 ≡ b
 stands_there b [] h = absurd (omega arith)
 stands_there b (x ∷ s) h = go (eqb x b) refl h (stands_there b s)
@@ -73,14 +66,11 @@ pub record Mark (b : ℕ) (test : List ℕ → Bool) (s : List ℕ) (k : ℕ) : 
   pub so_far : k + first_of b test (drop k s) ≡ first_of b test s
   pub stands : k < length s → get_or s k 0 ≡ b
 
--- at the end none is left
-pub ended : (b : ℕ) (test : List ℕ → Bool) (s : List ℕ) (k : ℕ) → k ≤ length s → k + first_of b test (drop k s) ≡ first_of b test s → length s ≤ k → length s ≡ first_of b test s
-ended b test s k l so_far h = let q : first_of b test (drop k s) ≡ 0 = rw (drop_of_length-le s h) in omega arith
-
 module _ {b : ℕ} {test : List ℕ → Bool} {s : List ℕ} where
   module _ {k : ℕ} (m : Mark b test s k) where
+    -- at the end none is left
     pub none : length s ≤ k → length s ≡ first_of b test s
-    none h = ended b test s k m.at_most m.so_far h
+    none h = let q : first_of b test (drop k s) ≡ 0 = rw (drop_of_length-le s h) in omega (arith, m.at_most, m.so_far)
 
     pub found : k < length s → test (drop k s) ≡ true → k ≡ first_of b test s
     found h t = omega (arith, m.so_far, holds_here b test s k h (m.stands h) t)
@@ -105,6 +95,11 @@ module _ {b : ℕ} {test : List ℕ → Bool} {s : List ℕ} where
   -- and from the start
   pub begun : (r : ℕ) → r ≡ place_of b s → Mark b test s r
   begun r e = subst (Mark b test s) (zero-add r) (turn 0 r (omega arith) (zero-add (first_of b test s)) (e ∙ ap (place_of b) (sym (rest_is s 0))))
+
+-- no pair at the front without CR
+pub not_CR : (x : ℕ) (t : List ℕ) → (x ≡ CR → ⊥) → pair_first (x ∷ t) ≡ false
+not_CR x [] n = refl
+not_CR x (y ∷ t) n = rw (ne_eqb x CR n)
 
 -- CR LF begins with CR
 pair_first_lem : (x : ℕ) (s : List ℕ) → pair_first (x ∷ s) ≡ eqb x CR && pair_first (x ∷ s)

@@ -1,13 +1,13 @@
 // Finding a frame in the received bytes (document 01, "Finding a frame in the received bytes"; document 02, c).
 #![tactic(auto)]
 
-ghost use Rattle.std.specs.Prelude.{◌≡◌, ◌+◌, ◌-◌, ◌≤◌, ◌<◌, length, take, drop, ltb};
+ghost use Rattle.std.specs.Prelude.{◌≡◌, ◌==◌, ◌+◌, ◌-◌, ◌≤◌, ◌<◌, length, take, drop, ltb, position};
 ghost use Rattle.finder.specs.Find.{place_of, pair_first, pair_of, begins_test_call, skipped, skip_of, find_in, part_of};
 
 use frames::checks::has_test_id;
 
 // What the received bytes hold, and how many of them are used up or dropped.
-#[derive(Clone, Copy)]
+#[derive(Clone, Copy, Debug, PartialEq, Eq)]
 pub enum Found {
     Frame { start: usize, used: usize },
     Nothing { drop: usize },
@@ -26,12 +26,8 @@ fn has(block: &[u8], b: u8) -> bool
     ensures { result ≡ ltb (place_of b block.now) (length block.now) }
 {
     let mut any = false;
-    let mut i = 0;
-    while i < block.len() {
-        if block[i] == b {
-            any = true;
-        }
-        i += 1;
+    for x in block {
+        any |= *x == b;
     }
     any
 }
@@ -41,27 +37,29 @@ fn pass_blocks(s: &[u8], b: u8) -> usize
     ensures { (result ≤ length s.now) × (result + place_of b (drop result s.now) ≡ place_of b s.now) }
 {
     let mut passed = 0;
-    while s.len() - passed >= BLOCK {
-        if has(&s[passed..passed + BLOCK], b) {
-            return passed;
+    for block in s.chunks_exact(BLOCK) {
+        if has(block, b) {
+            break;
         }
         passed += BLOCK;
     }
     passed
 }
 
+// Where a byte first stands, looked for byte by byte.
+fn by_byte(s: &[u8], b: u8) -> Option<usize>
+    ensures { result ≡ position (λ x. x == b) s.now }
+{
+    s.iter().position(|x| *x == b)
+}
+
 // Where a byte first stands, or the length: byte by byte only from the block on in which it stands, or behind the last one.
 fn place(s: &[u8], b: u8) -> usize
     ensures { result ≡ place_of b s.now }
 {
-    let mut i = pass_blocks(s, b);
-    while i < s.len() {
-        if s[i] == b {
-            return i;
-        }
-        i += 1;
-    }
-    i
+    let passed = pass_blocks(s, b);
+    let rest = &s[passed..];
+    passed + by_byte(rest, b).unwrap_or(rest.len())
 }
 
 // CR LF stands at a place.
@@ -69,98 +67,63 @@ fn pair_at(s: &[u8], i: usize) -> bool
     requires { i < length s.now }
     ensures { result ≡ pair_first (drop i s.now) }
 {
-    if s[i] != 0x0d {
-        return false;
-    }
-    if i + 1 >= s.len() {
-        return false;
-    }
-    s[i + 1] == 0x0a
+    matches!(&s[i..], [b'\r', b'\n', ..])
 }
 
 // Where CR LF first stands, or the length: from CR to CR, since a CR is looked for by blocks.
 fn pair(s: &[u8]) -> usize
     ensures { result ≡ pair_of s.now }
 {
-    let n = s.len();
-    let mut at = 0;
-    while at < n {
-        at += place(&s[at..], 0x0d);
-        if at >= n {
-            return n;
-        }
-        if pair_at(s, at) {
-            return at;
-        }
+    let mut at = place(s, b'\r');
+    while at < s.len() && !pair_at(s, at) {
         at += 1;
+        at += place(&s[at..], b'\r');
     }
-    n
+    at
 }
 
 // A test call begins so: '200' behind two bytes that aren't CR LF.
 fn begins_test_call(bytes: &[u8]) -> bool
     ensures { result ≡ begins_test_call bytes.now }
 {
-    if !has_test_id(bytes) {
-        return false;
-    }
-    !pair_at(bytes, 1)
+    has_test_id(bytes) && !pair_at(bytes, 1)
 }
 
 // Its '!' is skipped: 20 bytes are there, and CR LF aren't the last two.
 fn is_skipped(bytes: &[u8]) -> bool
     ensures { result ≡ skipped bytes.now }
 {
-    if bytes.len() < 20 {
-        return false;
-    }
-    if !begins_test_call(bytes) {
-        return false;
-    }
-    !pair_at(bytes, 18)
+    bytes.len() >= 20 && begins_test_call(bytes) && !pair_at(bytes, 18)
 }
 
 // Where a byte first stands, or the length: the first bytes one by one, then by blocks.
 fn near(s: &[u8], b: u8) -> usize
     ensures { result ≡ place_of b s.now }
 {
-    let mut i = 0;
-    while i < NEAR {
-        if i >= s.len() {
-            return i;
-        }
-        if s[i] == b {
-            return i;
-        }
-        i += 1;
+    let n = s.len().min(NEAR);
+    match by_byte(&s[..n], b) {
+        Some(i) => i,
+        None => n + place(&s[n..], b),
     }
-    i + place(&s[i..], b)
 }
 
 // Where a '!' first stands that isn't skipped, or the length: from '!' to '!'.
 fn first(s: &[u8]) -> usize
     ensures { result ≡ skip_of s.now }
 {
-    let n = s.len();
-    let mut bang = place(s, 0x21);
-    while bang < n {
-        if !is_skipped(&s[bang..]) {
-            return bang;
-        }
+    let mut bang = place(s, b'!');
+    while bang < s.len() && is_skipped(&s[bang..]) {
         bang += 1;
-        bang += near(&s[bang..], 0x21);
+        bang += near(&s[bang..], b'!');
     }
-    n
+    bang
 }
 
 // The first 1,023 bytes at most.
 fn window(s: &[u8]) -> &[u8]
     ensures { result.now ≡ take 1023 s.now }
 {
-    if s.len() <= 1023 {
-        return s;
-    }
-    &s[..1023]
+    &s[..s.len().min(1023)]
 }
 
 // A frame, nothing, wait or too long: any bytes, any length.
@@ -201,16 +164,8 @@ pub fn find(received: &[u8]) -> Found
 fn part(s: &[u8], start: usize, used: usize) -> &[u8]
     ensures { result.now ≡ take (used - start) (drop start s.now) }
 {
-    if used <= start {
-        return &s[0..0];
-    }
-    if s.len() <= start {
-        return &s[0..0];
-    }
-    if s.len() < used {
-        return &s[start..];
-    }
-    &s[start..used]
+    let rest = s.get(start..).unwrap_or(&s[..0]);
+    rest.get(..used.saturating_sub(start)).unwrap_or(rest)
 }
 
 // The frame itself, as the part of the received bytes where it was found; empty with no frame.
@@ -219,8 +174,6 @@ pub fn frame_in(received: &[u8], found: Found) -> &[u8]
 {
     match found {
         Found::Frame { start, used } => part(received, start, used),
-        Found::Nothing { drop: _ } => &received[0..0],
-        Found::Wait { drop: _ } => &received[0..0],
-        Found::TooLong { drop: _ } => &received[0..0],
+        Found::Nothing { .. } | Found::Wait { .. } | Found::TooLong { .. } => &received[..0],
     }
 }

@@ -4,7 +4,7 @@
 ghost use Rattle.std.specs.Prelude.{◌≡◌, ◌++◌, ◌+◌, ◌*◌, ◌≤◌, ◌<◌, length};
 ghost use Rattle.digits.specs.Digits.{digits_of};
 ghost use Rattle.digits.specs.Laid.{laid};
-ghost use Rattle.kinds.specs.Kinds.{size_of, place_of};
+ghost use Rattle.kinds.specs.Kinds.{size_of, place_of, run_of};
 ghost use Rattle.table.specs.Table.{Narrow};
 ghost use Rattle.heads.specs.Heads.{head_of, run_text, flags_text};
 ghost use Rattle.heads.specs.Laws.{Replied};
@@ -23,13 +23,10 @@ fn put_fields(reply: &mut [u8], m: Message, start: usize, count: usize) -> usize
     ensures reply_after { reply.new ≡ laid reply.old 6
         (digits_of m.program 0 ++ (digits_of m.start start ++ digits_of m.count count)) }
 {
-    let p = m.program;
-    let s = m.start;
-    let c = m.count;
-    put_number(reply, 6, p, 0);
-    put_number(reply, 6 + p, s, start as u64);
-    put_number(reply, 6 + p + s, c, count as u64);
-    6 + p + s + c
+    put_number(reply, 6, m.program, 0);
+    put_number(reply, 6 + m.program, m.start, start as u64);
+    put_number(reply, 6 + m.program + m.start, m.count, count as u64);
+    6 + m.program + m.start + m.count
 }
 
 // The ID and, where the reply repeats them, the fields; where they end.
@@ -40,9 +37,10 @@ fn put_head(reply: &mut [u8], m: Message, start: usize, count: usize) -> usize
 {
     put_number(reply, 3, 3, m.id as u64);
     if m.repeats {
-        return put_fields(reply, m, start, count);
+        put_fields(reply, m, start, count)
+    } else {
+        6
     }
-    6
 }
 
 // What a write says: the ID, and the fields where they are repeated.
@@ -52,6 +50,16 @@ pub fn reply_head(reply: &mut [u8], station: u8, m: Message, start: usize, count
 {
     let end = put_head(reply, m, start, count);
     close_reply(reply, station, end - 3)
+}
+
+// The bytes of a run, as the part of the area where they stand.
+fn run_in(area: &[u8], k: Kind, start: usize, count: usize) -> &[u8]
+    requires { (k.first ≤ start) × (length area.now < 65536) × (place_of k start + count * k.unit ≤ length area.now) }
+    ensures value { result.now ≡ run_of k start count area.now }
+    ensures long { length result.now ≡ count * k.unit }
+{
+    let at = k.place(start);
+    &area[at..at + count * k.unit]
 }
 
 // 210H, 20EH, and every message that reads a run: the head, then two digits for each byte.
@@ -69,10 +77,9 @@ pub fn reply_run(
     ensures { Replied reply.old reply.new result station (run_text m k start count area.now) }
 {
     let end = put_head(reply, m, start, count);
-    let at = k.place(start);
-    let many = count * k.unit;
-    put_digits(reply, end, &area[at..at + many]);
-    close_reply(reply, station, end - 3 + 2 * many)
+    let run = run_in(area, k, start, count);
+    put_digits(reply, end, run);
+    close_reply(reply, station, end - 3 + 2 * run.len())
 }
 
 // 20DH: the head, then two digits for each eight flags begun.
@@ -90,8 +97,7 @@ pub fn reply_flags(
     ensures { Replied reply.old reply.new result station (flags_text m k start count area.now) }
 {
     let end = put_head(reply, m, start, count);
-    let at = k.place(start);
-    let many = count * k.unit;
-    put_flags(reply, end, &area[at..at + many]);
-    close_reply(reply, station, end - 3 + 2 * ((many + 7) / 8))
+    let run = run_in(area, k, start, count);
+    put_flags(reply, end, run);
+    close_reply(reply, station, end - 3 + 2 * run.len().div_ceil(8))
 }

@@ -5,8 +5,8 @@ use mathlib.Core.Bool.{Bool, true, false, cond, ◌&&◌}
 use mathlib.Core.List.{List, [], ◌∷◌}
 use native.Mathlib.Nat.{le_of_suc-le-suc, not-suc-le-zero}
 use native.Mathlib.Omega.{arith}
-use lib.ListN.{length, take, drop, get_or, length-drop, drop_of_length-le}
-use lib.Dec.{leb, T}
+use lib.ListN.{length, take, drop, get_or, length-drop}
+use lib.Dec.{leb, eqb, T}
 use lib.Seq.{drop-drop, length-take-le}
 use borrow.Author.Tests.{ne_eqb, eq-eqb, le-leb, leb-true}
 use Rattle.digits.proofs.Laid.{part_rest}
@@ -57,13 +57,6 @@ at_front held l h =
       fit = and_right (leb (w + 3) (length l)) d q;
     }
 
-pub front_none : (held : Held) (l : List ℕ) → (AtFront held l → ⊥) → 0 ≡ front_of held l
-front_none held l none = go (front_of held l) refl
-  where
-    go : (s : ℕ) → front_of held l ≡ s → 0 ≡ s
-    go zero e = refl
-    go (suc s) e = absurd (none (at_front held l (omega arith)))
-
 pub front_least : (held : Held) (l : List ℕ) → 0 < front_of held l → 5 ≤ front_of held l
 front_least held l h = let f = at_front held l h in omega (arith, f.is, f.some)
 
@@ -86,11 +79,16 @@ entries_skip held zero l h = refl
 entries_skip held (suc k) [] h = absurd (not-suc-le-zero h)
 entries_skip held (suc k) (x ∷ l) h = entries_skip held k l (le_of_suc-le-suc h)
 
--- no entry at the front
-pub whole_not : (held : Held) (l : List ℕ) → 0 < length l → front_of held l ≡ 0 → whole held 0 l ≡ false
+-- no entry at the front: whole where nothing is left
+whole_not : (held : Held) (l : List ℕ) → 0 < length l → front_of held l ≡ 0 → whole held 0 l ≡ false
 unfolding whole
 whole_not held [] h e = absurd (not-suc-le-zero h)
 whole_not held (x ∷ l) h e = simp (eq-eqb _ _ e)
+
+pub whole_stops : (held : Held) (l : List ℕ) → front_of held l ≡ 0 → eqb (length l) 0 ≡ whole held 0 l
+unfolding whole
+whole_stops held [] e = refl
+whole_stops held (x ∷ l) e = ne_eqb (suc (length l)) 0 (λ q. omega arith) ∙ sym (whole_not held (x ∷ l) (omega arith) e)
 
 -- an entry of suc s bytes at the front
 whole_good : (held : Held) (s : ℕ) (l : List ℕ) → front_of held l ≡ suc s → suc s ≤ length l → whole held 0 l ≡ whole held 0 (drop (suc s) l)
@@ -133,11 +131,6 @@ module _ (held : Held) (s at : ℕ) (b : List ℕ) (is : s ≡ front_of held (dr
   pub turn_entries : 0 < s → entries_in held 0 (drop at b) ≡ entry_at s (drop at b) ∷ entries_in held 0 (drop (at + s) b)
   turn_entries h =
       entries_front held s (drop at b) (sym is) h ∙ ap (λ (r : List ℕ). entry_at s (drop at b) ∷ entries_in held 0 r) (drop-drop s at b)
-
--- the walk's end
-pub whole_end : (held : Held) (at : ℕ) (b : List ℕ) → length b ≤ at → whole held 0 (drop at b) ≡ true
-unfolding whole
-whole_end held at b h = rw (drop_of_length-le b h)
 
 -- what is lent as &b[at..]
 

@@ -1,7 +1,7 @@
 // The journal: entries in a lent area, adding one, stepping back (document 01, "Journal"; document 02, a).
 #![tactic(auto)]
 
-ghost use Rattle.std.specs.Prelude.{◌≡◌, true, ◌∷◌, ◌++◌, ◌+◌, ◌-◌, ◌≤◌, ◌<◌, length, take, drop, replicate};
+ghost use Rattle.std.specs.Prelude.{MatchOption, ◌≡◌, true, ◌∷◌, ◌++◌, ◌+◌, ◌-◌, ◌≤◌, ◌<◌, length, take, drop, replicate};
 ghost use Rattle.areas.specs.Bytes.{two_of};
 ghost use Rattle.kinds.specs.Kinds.{Sound, size_of};
 ghost use Rattle.digits.specs.Laid.{laid};
@@ -9,49 +9,35 @@ ghost use Rattle.journal.specs.Journal.{encode, encodes, entry_fits, front_of, w
 ghost use Rattle.journal.specs.Laws.{Holds, Good, Stands};
 
 use areas::bytes::{put_two, two_at};
-use areas::runs::{clear_run, move_run, put_run};
+use areas::runs::{move_run, put_run};
 use kinds::{Held, Kind};
 
 // So many old bytes from a start number on make a well-formed entry of a kind.
+#[tactic(auto, unfolding(crate::specs::Journal::entry_fits))]
 fn fits(k: Kind, start: usize, size: usize) -> bool
     requires { (0 < k.unit) × (start < 65536) × (size < 65536) × (k.first + k.held ≤ 65536) }
     ensures { result ≡ entry_fits k start size }
 {
-    let unit = k.unit;
-    let most = k.most;
-    if size % unit != 0 {
-        return false;
-    }
-    let count = size / unit;
-    if count < 1 {
-        return false;
-    }
-    if most < count {
-        return false;
-    }
-    k.has(start, count)
+    let count = size / k.unit;
+    size % k.unit == 0 && 1 <= count && count <= k.most && k.has(start, count)
 }
 
-// How long the entry at the front is, 0 where no whole well-formed one stands there.
-fn front(bytes: &[u8], held: Held) -> usize
+// How long the entry at the front is, where a whole well-formed one stands there.
+#[tactic(auto, unfolding(crate::specs::Journal::front_of))]
+fn front(bytes: &[u8], held: Held) -> Option<usize>
     requires { Sound held }
-    ensures { result ≡ front_of held bytes.now }
+    ensures { MatchOption result (front_of held bytes.now ≡ 0) (λ n. (0 < n) × (n ≡ front_of held bytes.now)) }
 {
     if bytes.len() < 5 {
-        return 0;
+        return None;
     }
-    let length = two_at(bytes, 1) as usize;
-    let start = two_at(bytes, 3) as usize;
-    if length < 2 {
-        return 0;
+    let length = usize::from(two_at(bytes, 1));
+    let start = usize::from(two_at(bytes, 3));
+    if 2 <= length && length + 3 <= bytes.len() && fits(held.kind(bytes[0]), start, length - 2) {
+        Some(length + 3)
+    } else {
+        None
     }
-    if bytes.len() < length + 3 {
-        return 0;
-    }
-    if fits(held.kind(bytes[0]), start, length - 2) {
-        return length + 3;
-    }
-    0
 }
 
 // Whether bytes are whole well-formed entries.
@@ -59,15 +45,11 @@ pub fn is_whole(bytes: &[u8], held: Held) -> bool
     requires { Sound held }
     ensures { result ≡ whole held 0 bytes.now }
 {
-    let mut at = 0;
-    while at < bytes.len() {
-        let size = front(&bytes[at..], held);
-        if size == 0 {
-            return false;
-        }
-        at += size;
+    let mut rest = bytes;
+    while let Some(size) = front(rest, held) {
+        rest = &rest[size..];
     }
-    true
+    rest.is_empty()
 }
 
 // How long the entry at the front of whole entries is: its own length says it, and it isn't tested again.
@@ -75,7 +57,7 @@ fn entry_length(bytes: &[u8], held: Held) -> usize
     requires { (0 < length bytes.now) × (whole held 0 bytes.now ≡ true) }
     ensures { result ≡ front_of held bytes.now }
 {
-    two_at(bytes, 1) as usize + 3
+    usize::from(two_at(bytes, 1)) + 3
 }
 
 // How many bytes of whole entries go from the front, so that at least so many do, and no entry more.
@@ -84,6 +66,7 @@ fn cut(bytes: &[u8], over: usize, held: Held) -> usize
     ensures { (result ≤ length bytes.now) × (over ≤ result)
         × (drop result bytes.now ≡ encodes (kept (length bytes.now - over) (entries_in held 0 bytes.now))) }
 {
+    // counted by hand: entries differ in length and the place is asked for; a slice that shrinks would have to be measured for it
     let mut at = 0;
     while at < over {
         at += entry_length(&bytes[at..], held);
@@ -96,10 +79,7 @@ fn over_by(used: usize, size: usize, room: usize) -> usize
     requires { (used ≤ room) × (size ≤ room) × (room ≤ 65536) }
     ensures { result ≡ used + size - room }
 {
-    if room < used + size {
-        return used + size - room;
-    }
-    0
+    (used + size).saturating_sub(room)
 }
 
 // The five bytes before an entry's old bytes: tag, length of what follows, start number.
@@ -121,9 +101,7 @@ fn put_entry(journal: &mut [u8], at: usize, tag: u8, start: usize, old: &[u8])
 {
     put_head(journal, at, tag, old.len() + 2, start);
     put_run(journal, at + 5, old);
-    let end = at + 5 + old.len();
-    let many = journal.len() - end;
-    clear_run(journal, end, many);
+    journal[at + 5 + old.len()..].fill(0);
 }
 
 // Adds an entry: the oldest are dropped, no more than needed, until it fits. The new used length.
@@ -149,6 +127,7 @@ fn last_at(bytes: &[u8], held: Held) -> usize
     requires { Sound held × (0 < length bytes.now) × (whole held 0 bytes.now ≡ true) }
     ensures { result ≡ length (encodes (others (entries_in held 0 bytes.now))) }
 {
+    // counted by hand, as in `cut`
     let mut at = 0;
     let mut next = entry_length(bytes, held);
     while next < bytes.len() {
@@ -159,7 +138,7 @@ fn last_at(bytes: &[u8], held: Held) -> usize
 }
 
 // The last entry: its tag, its start number, and where it starts.
-#[derive(Clone, Copy)]
+#[derive(Clone, Copy, Debug, PartialEq, Eq)]
 pub struct Last {
     pub tag: u8,
     pub start: usize,
@@ -173,9 +152,11 @@ pub fn find_last(journal: &[u8], used: usize, held: Held) -> Last
     ensures { Stands held journal.now used result }
 {
     let at = last_at(&journal[..used], held);
-    let tag = journal[at];
-    let start = two_at(journal, at + 3) as usize;
-    Last { tag, start, at }
+    Last {
+        tag: journal[at],
+        start: usize::from(two_at(journal, at + 3)),
+        at,
+    }
 }
 
 // An entry's old bytes put back into an area of a kind, where the entry is of that kind.
@@ -184,10 +165,8 @@ pub fn restore(area: &mut [u8], k: Kind, tag: u8, start: usize, old: &[u8])
     requires value { tag ≡ k.tag → entry_fits k start (length old.now) ≡ true }
     ensures { area.new ≡ puts k (entry_for tag start old.now) area.old }
 {
-    let own = k.tag;
-    if tag == own {
-        let at = k.place(start);
-        put_run(area, at, old);
+    if tag == k.tag {
+        put_run(area, k.place(start), old);
     }
 }
 
@@ -196,6 +175,5 @@ pub fn remove(journal: &mut [u8], at: usize)
     requires { at ≤ length journal.old }
     ensures { journal.new ≡ take at journal.old ++ replicate (length journal.old - at) 0 }
 {
-    let many = journal.len() - at;
-    clear_run(journal, at, many);
+    journal[at..].fill(0);
 }

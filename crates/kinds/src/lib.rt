@@ -5,7 +5,7 @@ ghost use Rattle.std.specs.Prelude.{◌≡◌, ◌+◌, ◌*◌, ◌<◌, ◌≤
 ghost use Rattle.kinds.specs.Kinds.{points_of, columns_of, integers_of, flags_of, kind_of, held_in, holds, place_of};
 
 // A kind of numbered thing: its journal tag, first number, bytes for each, how many are held, how many an entry may name.
-#[derive(Clone, Copy)]
+#[derive(Clone, Copy, Debug, PartialEq, Eq)]
 pub struct Kind {
     pub tag: u8,
     pub first: usize,
@@ -15,21 +15,21 @@ pub struct Kind {
 }
 
 // The settings that number variables: that of the first integer, and that of the first flag.
-#[derive(Clone, Copy)]
+#[derive(Clone, Copy, Debug, PartialEq, Eq)]
 pub struct Firsts {
     pub integer: u16,
     pub flag: u16,
 }
 
 // What the board holds: how many points, and the first numbers of variables.
-#[derive(Clone, Copy)]
+#[derive(Clone, Copy, Debug, PartialEq, Eq)]
 pub struct Held {
     pub points: usize,
     pub firsts: Firsts,
 }
 
 // The lengths of the areas that things are held in, and the first numbers: all that the tests ask of them.
-#[derive(Clone, Copy)]
+#[derive(Clone, Copy, Debug, PartialEq, Eq)]
 pub struct Lengths {
     pub points: usize,
     pub columns: usize,
@@ -42,10 +42,9 @@ pub struct Lengths {
 pub fn held_in(lengths: Lengths) -> Held
     ensures { result ≡ held_in lengths }
 {
-    let firsts = lengths.firsts;
     Held {
         points: lengths.points / 40,
-        firsts,
+        firsts: lengths.firsts,
     }
 }
 
@@ -67,11 +66,9 @@ impl Held {
     fn integers(self) -> Kind
         ensures { result ≡ integers_of self }
     {
-        let firsts = self.firsts;
-        let first = firsts.integer as usize;
         Kind {
             tag: Kind::INTEGERS,
-            first,
+            first: usize::from(self.firsts.integer),
             unit: 4,
             held: 100,
             most: 100,
@@ -82,11 +79,9 @@ impl Held {
     fn flags(self) -> Kind
         ensures { result ≡ flags_of self }
     {
-        let firsts = self.firsts;
-        let first = firsts.flag as usize;
         Kind {
             tag: Kind::FLAGS,
-            first,
+            first: usize::from(self.firsts.flag),
             unit: 1,
             held: 300,
             most: 1,
@@ -94,27 +89,22 @@ impl Held {
     }
 
     // The kind of a tag; of another tag nothing is held.
+    #[tactic(auto, unfolding(crate::specs::Kinds::kind_of))]
     pub fn kind(self, tag: u8) -> Kind
         ensures { result ≡ kind_of self tag }
     {
-        if tag == Kind::POINTS {
-            return self.points();
-        }
-        if tag == Kind::COLUMNS {
-            return Kind::columns();
-        }
-        if tag == Kind::INTEGERS {
-            return self.integers();
-        }
-        if tag == Kind::FLAGS {
-            return self.flags();
-        }
-        Kind {
-            tag,
-            first: 0,
-            unit: 1,
-            held: 0,
-            most: 0,
+        match tag {
+            Kind::POINTS => self.points(),
+            Kind::COLUMNS => Kind::columns(),
+            Kind::INTEGERS => self.integers(),
+            Kind::FLAGS => self.flags(),
+            _ => Kind {
+                tag,
+                first: 0,
+                unit: 1,
+                held: 0,
+                most: 0,
+            },
         }
     }
 }
@@ -143,16 +133,12 @@ impl Kind {
     }
 
     // Every number from start to start + count - 1 is held.
+    #[tactic(auto, unfolding(crate::specs::Kinds::holds))]
     pub fn has(self, start: usize, count: usize) -> bool
         requires { (start < 65536) × (count < 65536) × (self.first + self.held ≤ 65536) }
         ensures { result ≡ holds self start count }
     {
-        let first = self.first;
-        let held = self.held;
-        if start < first {
-            return false;
-        }
-        start + count <= first + held
+        self.first <= start && start + count <= self.first + self.held
     }
 
     // Where a number stands in its area.
@@ -160,8 +146,6 @@ impl Kind {
         requires { (self.first ≤ start) × (place_of self start < 2 ^ 63) }
         ensures { result ≡ place_of self start }
     {
-        let first = self.first;
-        let unit = self.unit;
-        (start - first) * unit
+        (start - self.first) * self.unit
     }
 }

@@ -2,9 +2,8 @@
 // document 02, a).
 #![tactic(auto)]
 
-ghost use Rattle.std.specs.Prelude.{◌≡◌, true, [], ◌∷◌, ◌+◌, ◌*◌, ◌<◌, length, replicate};
+ghost use Rattle.std.specs.Prelude.{◌≡◌, true, [], ◌∷◌, ◌*◌, length, replicate};
 ghost use Rattle.digits.specs.Digits.{all_digits, number_of};
-ghost use Rattle.digits.specs.Laid.{laid};
 ghost use Rattle.pairs.specs.Pairs.{bytes_in};
 ghost use Rattle.points.specs.Point.{fills_of, slots_of};
 ghost use Rattle.writes.specs.Writes.{Ready, Entered, Written};
@@ -16,6 +15,7 @@ use pairs::set_bytes;
 use slots::lay_points;
 
 // One entry with what stands in a run. The new used length.
+// Each write below enters and then puts, in two lines of its own: one function over a closure would take eight arguments and be no plainer.
 fn enter(
     area: &[u8],
     journal: &mut [u8],
@@ -94,13 +94,6 @@ pub fn change(
     left
 }
 
-fn put_byte(area: &mut [u8], at: usize, b: u8)
-    requires { at < length area.old }
-    ensures { area.new ≡ laid area.old at (b ∷ []) }
-{
-    area[at] = b;
-}
-
 // 24BH: one flag set to what its change type says. The new used length.
 pub fn set_flag(
     area: &mut [u8],
@@ -117,8 +110,7 @@ pub fn set_flag(
         area.old area.new journal.old journal.new used result }
 {
     let left = enter(area, journal, used, held, k, start, 1);
-    let digit = digits[0];
-    let value = digits::worth(digit);
-    put_byte(area, k.place(start), value);
+    let value = digits::worth(digits[0]);
+    area[k.place(start)] = value;
     left
 }

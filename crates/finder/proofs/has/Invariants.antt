@@ -1,12 +1,7 @@
-use Prim.Native.Nat.{◌-◌, ◌≤◌}
-use mathlib.Core.Path.{◌≡◌}
-use mathlib.Core.Bool.{◌||◌}
-use lib.ListN.{length, drop}
-use Rattle.finder.proofs.Blocks.{stands}
+use Rattle.std.proofs.Common.{◌≡◌, take}
+use lib.Dec.{eqb}
+use Rattle.std.specs.List.{list_any}
 use Rattle.finder.proofs.has.Given as goal
 
-abbrev pub invariant-loop-i : goal.invariant-loop-i
-invariant-loop-i l = (l.i ≤ length l.block) × (l.any || stands l.b (drop l.i l.block) ≡ stands l.b l.block)
-
-abbrev pub decreases-loop-i : goal.decreases-loop-i
-decreases-loop-i l = length l.block - l.i
+abbrev pub invariant-loop-x : goal.invariant-loop-x
+invariant-loop-x l = l.any ≡ list_any (λ x. eqb x l.b) (take l.x-index l.block)

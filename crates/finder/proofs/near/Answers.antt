@@ -1,30 +1,19 @@
-use Prim.Native.Nat.{◌+◌, ◌≤◌}
-use mathlib.Core.Path.{◌≡◌}
+use Rattle.std.proofs.Common.{◌≡◌, ◌∙◌, sym, ◌+◌, ◌≤◌, length, drop}
 use native.Mathlib.Omega.{arith}
-use lib.ListN.{length, drop}
 use Rattle.finder.specs.Find.{place_of}
-use Rattle.finder.proofs.Turns.{place_here, place_next, place_done}
+use Rattle.finder.proofs.Blocks.{close, far}
 use Rattle.finder.proofs.Search.{place_on}
 use Rattle.finder.proofs.near.Goals as goal
 
-pub returns-then-i-s : goal.returns-then-i-s
-returns-then-i-s c =
-    omega (arith, place_done c.args.s.now c.loop-i.i (omega arith) c.args.b)
+pub returns-in-Some : goal.returns-in-Some
+returns-in-Some c = close c.args.b c.min-n.result c.args.s.now c.in-Some.i (sym c.by_byte.ensures ∙ c.in-Some.is)
 
-pub returns-then-s-i : goal.returns-then-s-i
-returns-then-s-i c =
-    omega (arith, place_here c.args.s.now c.loop-i.i (omega arith) c.args.b c.if-s-i.true)
-
-pub loop-i-preserved : goal.loop-i-preserved
-loop-i-preserved c =
-    omega (arith, place_next c.args.s.now c.loop-i.i (omega arith) c.args.b c.if-s-i.false)
+-- where the byte stands in what is left
+found : (c : goal.After-place) → let n = c.min-n.result in (n + c.place.result ≤ length c.args.s.now) × (c.place.result ≡ place_of c.args.b (drop n c.args.s.now))
+found c = place_on c.args.b c.args.s.now c.min-n.result c.place.result (omega arith) c.place.ensures
 
 pub overflow_add-result : goal.overflow_add-result
-overflow_add-result c =
-    let rest : let s = c.args.s.now in (c.loop-i.i + c.place.result ≤ length s) × (c.place.result ≡ place_of c.args.b (drop c.loop-i.i s)) = place_on c.args.b c.args.s.now c.loop-i.i c.place.result c.loop-i.invariant.0 c.place.ensures in
-    omega (arith, rest)
+overflow_add-result c = omega (arith, found c)
 
-pub returns : goal.returns
-returns c =
-    let rest : let s = c.args.s.now in (c.loop-i.i + c.place.result ≤ length s) × (c.place.result ≡ place_of c.args.b (drop c.loop-i.i s)) = place_on c.args.b c.args.s.now c.loop-i.i c.place.result c.loop-i.invariant.0 c.place.ensures in
-    omega (arith, rest)
+pub returns-in-None : goal.returns-in-None
+returns-in-None c = omega (arith, found c, far c.args.b c.min-n.result c.args.s.now (sym c.by_byte.ensures ∙ c.in-None.is) (omega arith))

@@ -1,37 +1,25 @@
-use Prim.Native.Nat.{◌+◌}
-use mathlib.Core.Path.{sym, ◌∙◌}
+use Rattle.std.proofs.Common.{◌+◌, sym, ◌∙◌}
 use native.Mathlib.Omega.{arith}
 use Rattle.frames.specs.Frame.{CR}
 use Rattle.finder.specs.Find.{pair_first}
-use Rattle.finder.proofs.Search.{Mark, pair_is, turn, ended, none, found, missed}
+use Rattle.finder.proofs.Search.{Mark, pair_is, begun, turn, none, found, missed}
 use Rattle.finder.proofs.pair.Goals as goal
 
-pub overflow_add-at : goal.overflow_add-at
-overflow_add-at c =
-    let mark : Mark CR pair_first (c.args.s.now) (c.loop-at.at + c.place-at.result) = let i = c.loop-at.invariant in turn _ _ i.0 i.2 c.place-at.ensures in
-    omega (arith, mark.at_most)
+pub loop-at-init : goal.loop-at-init
+loop-at-init c = begun _ c.place-at.ensures
 
-pub returns-then-at-n : goal.returns-then-at-n
-returns-then-at-n c =
-    let mark : Mark CR pair_first (c.args.s.now) (c.loop-at.at + c.place-at.result) = let i = c.loop-at.invariant in turn _ _ i.0 i.2 c.place-at.ensures in
-    omega (arith, none mark (omega arith), pair_is (c.args.s.now))
-
-pub returns-then-pair_at : goal.returns-then-pair_at
-returns-then-pair_at c =
-    let mark : Mark CR pair_first (c.args.s.now) (c.loop-at.at + c.place-at.result) = let i = c.loop-at.invariant in turn _ _ i.0 i.2 c.place-at.ensures in
-    let m = mark in omega (arith, found m (omega arith) (sym c.pair_at.ensures ∙ c.if-pair_at.true), pair_is (c.args.s.now))
+-- the next CR
+next : (c : goal.After-place-at-in-loop-at) → Mark CR pair_first c.args.s.now (c.loop-at.at + 1 + c.place-at-in-loop-at.result)
+next c = turn _ _ (omega arith) (missed c.loop-at.invariant (omega arith) (sym c.pair_at.ensures ∙ c.if-not-pair_at.true)) c.place-at-in-loop-at.ensures
 
 pub overflow_add-at-in-loop-at : goal.overflow_add-at-in-loop-at
-overflow_add-at-in-loop-at c =
-    let mark : Mark CR pair_first (c.args.s.now) (c.loop-at.at + c.place-at.result) = let i = c.loop-at.invariant in turn _ _ i.0 i.2 c.place-at.ensures in
-    omega (arith, mark.at_most)
+overflow_add-at-in-loop-at c = let m = next c in omega (arith, m.at_most)
 
 pub loop-at-preserved : goal.loop-at-preserved
-loop-at-preserved c =
-    let mark : Mark CR pair_first (c.args.s.now) (c.loop-at.at + c.place-at.result) = let i = c.loop-at.invariant in turn _ _ i.0 i.2 c.place-at.ensures in
-    let m = mark in (omega arith, omega arith, missed m (omega arith) (sym c.pair_at.ensures ∙ c.if-pair_at.false))
+loop-at-preserved c = next c
 
-pub returns : goal.returns
-returns c =
-    let s = c.args.s.now in
-    omega (arith, ended CR pair_first s c.loop-at.at c.loop-at.invariant.0 c.loop-at.invariant.2 (omega arith), pair_is s)
+pub returns-else-not-pair_at : goal.returns-else-not-pair_at
+returns-else-not-pair_at c = found c.loop-at.invariant (omega arith) (sym c.pair_at.ensures ∙ c.if-not-pair_at.false) ∙ sym (pair_is c.args.s.now)
+
+pub returns-after-loop-at : goal.returns-after-loop-at
+returns-after-loop-at c = omega (arith, c.loop-at.invariant.at_most, none c.loop-at.invariant (omega arith), pair_is c.args.s.now)

@@ -1,15 +1,12 @@
-use mathlib.Core.Path.{sym, ◌∙◌}
-use native.Mathlib.Omega.{arith}
+use Rattle.std.proofs.Common.{sym, ◌∙◌}
 use Rattle.finder.proofs.Blocks.{block_passed}
 use Rattle.finder.proofs.pass_blocks.Goals as goal
 
-pub returns-then-has : goal.returns-then-has
-returns-then-has c = c.loop-passed.invariant
-
-pub loop-passed-preserved : goal.loop-passed-preserved
-loop-passed-preserved c =
-    let a = c.args in
-    (omega arith, block_passed a.b 64 c.loop-passed.passed a.s.now (omega arith) c.loop-passed.invariant.1 (sym c.has.ensures ∙ c.if-has.false))
-
-pub returns : goal.returns
-returns c = c.loop-passed.invariant
+pub loop-block-preserved : goal.loop-block-preserved
+loop-block-preserved c =
+    let i = c.loop-block.invariant in
+    let h = c.in-Some.ensures.steps in
+    record {
+      size = h.0 ∙ i.size;
+      passed = block_passed _ _ 64 _ _ _ _ i.passed h.1.0 (h.1.1 ∙ i.size) (sym c.has.ensures ∙ c.if-has.false);
+    }

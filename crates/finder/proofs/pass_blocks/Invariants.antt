@@ -1,11 +1,10 @@
-use Prim.Native.Nat.{◌+◌, ◌-◌, ◌≤◌}
-use mathlib.Core.Path.{◌≡◌}
-use lib.ListN.{length, drop}
-use Rattle.finder.specs.Find.{place_of}
+use Rattle.std.proofs.Common.{◌≡◌}
+use Rattle.std.specs.Slice.Iter.{chunks_exact_rest, chunks_exact_size}
+use Rattle.finder.proofs.Blocks.{Passed}
 use Rattle.finder.proofs.pass_blocks.Given as goal
 
-abbrev pub invariant-loop-passed : goal.invariant-loop-passed
-invariant-loop-passed l = (l.passed ≤ length l.s) × (l.passed + place_of l.b (drop l.passed l.s) ≡ place_of l.b l.s)
-
-abbrev pub decreases-loop-passed : goal.decreases-loop-passed
-decreases-loop-passed l = length l.s - l.passed
+abbrev pub invariant-loop-block : goal.invariant-loop-block
+invariant-loop-block l = record {
+  size : chunks_exact_size l.block-iterator ≡ 64;
+  passed : Passed l.b l.s l.passed (chunks_exact_rest l.block-iterator);
+}

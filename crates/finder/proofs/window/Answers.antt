@@ -1,10 +1,10 @@
-use mathlib.Core.Path.{sym}
+use Rattle.std.proofs.Common.{◌≡◌, ◌∙◌, ap, min, length, take}
 use native.Mathlib.Omega.{arith}
-use lib.Seq.{take_all, length-take-le}
+use Rattle.std.proofs.lemmas.List.{take_min}
 use Rattle.finder.proofs.window.Goals as goal
 
-pub returns-then-s-le1023 : goal.returns-then-s-le1023
-returns-then-s-le1023 c = sym (take_all 1023 c.args.s.now c.if-s-le1023.true)
-
-pub slice_bounds-result-end : goal.slice_bounds-result-end
-slice_bounds-result-end c = sym (length-take-le 1023 c.args.s.now (omega arith))
+pub returns : goal.returns
+returns c =
+    let s = c.args.s.now in
+    let n : c.min.result ≡ min 1023 (length s) = omega arith in
+    ap (λ k. take k s) n ∙ take_min 1023 s

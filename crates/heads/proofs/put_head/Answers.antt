@@ -9,8 +9,8 @@ returns-then-m c =
     head_repeating a.reply.now a.m a.start a.count _ (omega arith) c.put_number.ensures _ _ c.requires.0 c.if-m.true f.reply_after f.value) in
     record { value = it.0; reply_after = it.1 }
 
-pub returns : goal.returns
-returns c =
+pub returns-else-m : goal.returns-else-m
+returns-else-m c =
     let it = (let a = c.args in
     head_alone a.reply.now a.m a.start a.count _ (omega arith) c.put_number.ensures c.if-m.false) in
     record { value = it.0; reply_after = it.1 }

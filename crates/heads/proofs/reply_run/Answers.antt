@@ -1,5 +1,4 @@
-use Prim.Native.Nat.{◌+◌, ◌-◌, ◌*◌}
-use mathlib.Core.Path.{refl}
+use Rattle.std.proofs.Common.{◌+◌, ◌-◌, ◌*◌, length}
 use native.Mathlib.Omega.{arith}
 use Rattle.pairs.specs.Pairs.{digits_in}
 use Rattle.heads.specs.Heads.{run_text}
@@ -9,12 +8,10 @@ use Rattle.heads.proofs.reply_run.Goals as goal
 pub returns : goal.returns
 returns c =
     let a = c.args in
-    let d = a.reply.now in
     let s = a.area.now in
-    let n = a.count * a.k.unit in
     let h = c.put_head-end in
-    let p = c.place-at in
+    let run = c.run_in-run in
     let k = c.close_reply.ensures in
-    let e = run_laid a.m a.k a.start a.count h.result p.result n s h.ensures.value.0 p.ensures refl digits_in d _ _ (omega arith) h.ensures.reply_after c.put_digits.ensures in
-    let l = length_run a.m a.k a.start a.count h.result p.result n s h.ensures.value.0 p.ensures refl (omega arith) in
-    replied d _ _ (run_text a.m a.k a.start a.count s) a.station (h.result - 3 + 2 * n) _ e l (omega (arith, h.ensures.value.1)) k.value k.reply_after
+    let e = run_laid a.m a.k a.start a.count h.result s run.result.now h.ensures.value.0 run.ensures.value digits_in a.reply.now _ _ (omega arith) h.ensures.reply_after c.put_digits.ensures in
+    let l = length_run a.m a.k a.start a.count h.result s run.result.now h.ensures.value.0 run.ensures.value in
+    replied a.reply.now _ _ (run_text a.m a.k a.start a.count s) a.station (h.result - 3 + 2 * length run.result.now) _ e l (omega (arith, h.ensures.value.1, run.ensures.long)) k.value k.reply_after

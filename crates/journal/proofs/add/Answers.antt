@@ -1,5 +1,5 @@
 use borrow.Author.Rules.{rules}
-use mathlib.Core.Path.{◌≡◌, sym}
+use mathlib.Core.Path.{◌≡◌}
 use native.Mathlib.Omega.{arith}
 use lib.ListN.{length, take}
 use lib.Seq.{length-take-le}
@@ -7,25 +7,10 @@ use Rattle.journal.specs.Journal.{entry_for}
 use Rattle.journal.proofs.Adding.{holds_added}
 use Rattle.journal.proofs.add.Goals as goal
 
-pub slice_bounds-cut-end-2 : goal.slice_bounds-cut-end-2
-slice_bounds-cut-end-2 c =
-    let used_long : length (take c.args.used c.args.journal.now) ≡ c.args.used = length-take-le c.args.used c.args.journal.now c.requires.sound.2 in
-    sym used_long
-
 pub cut-gone-requires : goal.cut-gone-requires
 cut-gone-requires c =
     let used_long : length (take c.args.used c.args.journal.now) ≡ c.args.used = length-take-le c.args.used c.args.journal.now c.requires.sound.2 in
     (c.requires.sound.0, omega (arith, used_long, c.over_by-over.ensures), c.requires.journal_value)
-
-pub overflow_sub-left : goal.overflow_sub-left
-overflow_sub-left c =
-    let used_long : length (take c.args.used c.args.journal.now) ≡ c.args.used = length-take-le c.args.used c.args.journal.now c.requires.sound.2 in
-    omega (arith, used_long)
-
-pub move_run-requires : goal.move_run-requires
-move_run-requires c =
-    let used_long : length (take c.args.used c.args.journal.now) ≡ c.args.used = length-take-le c.args.used c.args.journal.now c.requires.sound.2 in
-    omega (arith, used_long)
 
 pub returns : goal.returns
 returns c =

@@ -16,20 +16,22 @@ entry_length-at-requires c =
     let g = c.loop-at in
     part_whole c.args.held g.at c.args.bytes.now (omega (arith, c.loop-at-test.true, c.requires.1)) g.invariant.good
 
+-- one entry more goes
+turn : (c : goal.After-entry_length-at) → (c.loop-at.at < c.loop-at.at + c.entry_length-at.result)
+    × Cutting c.args.held c.args.over c.args.bytes.now (c.loop-at.at + c.entry_length-at.result)
+turn c =
+    let g = c.loop-at in
+    let is = c.entry_length-at.ensures ∙ ap (front_of c.args.held) (part_rest c.args.bytes.now g.at) in
+    cutting_next c.args.held c.args.over c.args.bytes.now (λ i. (c.type_inv.bytes i).fits) g.at g.invariant c.entry_length-at.result is c.requires.1 c.loop-at-test.true
+
 pub overflow_add-at : goal.overflow_add-at
-overflow_add-at c =
-    let turn : (c.loop-at.at < (c.loop-at.at + c.entry_length-at.result)) × Cutting (c).args.held (c).args.over (c).args.bytes.now ((c.loop-at.at + c.entry_length-at.result)) = let g = c.loop-at in cutting_next c.args.held c.args.over c.args.bytes.now (λ i. (c.type_inv.bytes i).fits) g.at g.invariant c.entry_length-at.result (c.entry_length-at.ensures ∙ ap (front_of c.args.held) (part_rest c.args.bytes.now g.at)) c.requires.1 c.loop-at-test.true in
-    let t = turn in omega arith
+overflow_add-at c = let t = turn c in omega arith
 
 pub loop-at-smaller : goal.loop-at-smaller
-loop-at-smaller c =
-    let turn : (c.loop-at.at < (c.loop-at.at + c.entry_length-at.result)) × Cutting (c).args.held (c).args.over (c).args.bytes.now ((c.loop-at.at + c.entry_length-at.result)) = let g = c.loop-at in cutting_next c.args.held c.args.over c.args.bytes.now (λ i. (c.type_inv.bytes i).fits) g.at g.invariant c.entry_length-at.result (c.entry_length-at.ensures ∙ ap (front_of c.args.held) (part_rest c.args.bytes.now g.at)) c.requires.1 c.loop-at-test.true in
-    let t = turn in omega arith
+loop-at-smaller c = let t = turn c in omega arith
 
 pub loop-at-preserved : goal.loop-at-preserved
-loop-at-preserved c =
-    let turn : (c.loop-at.at < (c.loop-at.at + c.entry_length-at.result)) × Cutting (c).args.held (c).args.over (c).args.bytes.now ((c.loop-at.at + c.entry_length-at.result)) = let g = c.loop-at in cutting_next c.args.held c.args.over c.args.bytes.now (λ i. (c.type_inv.bytes i).fits) g.at g.invariant c.entry_length-at.result (c.entry_length-at.ensures ∙ ap (front_of c.args.held) (part_rest c.args.bytes.now g.at)) c.requires.1 c.loop-at-test.true in
-    turn.1
+loop-at-preserved c = (turn c).1
 
 pub returns : goal.returns
 returns c =

@@ -1,5 +1,3 @@
-use Prim.Native.Nat.{◌+◌}
-use mathlib.Core.Path.{sym, ap, ◌∙◌}
 use native.Mathlib.Omega.{arith}
 use Rattle.journal.proofs.Walk.{front_whole}
 use Rattle.journal.proofs.entry_length.Goals as goal
@@ -12,4 +10,4 @@ two_at-requires c =
 pub returns : goal.returns
 returns c =
     let f = front_whole c.args.held c.args.bytes.now c.requires.0 c.requires.1 in
-    ap (λ x. x + 3) c.two_at.ensures ∙ sym f.is
+    omega (arith, f.is, c.from.ensures, c.two_at.ensures)

@@ -1,40 +1,27 @@
-use Prim.Native.Nat.{◌+◌, ◌≤◌, ◌<◌}
-use mathlib.Core.Path.{◌≡◌, refl, sym, ap, ◌∙◌}
+use Rattle.std.proofs.Common.{sym, ap, ◌∙◌, length, length-drop}
 use native.Mathlib.Omega.{arith}
-use borrow.Author.Rules.{rules}
-use lib.ListN.{length, drop, length-drop}
-use Rattle.journal.specs.Journal.{front_of}
 use Rattle.digits.proofs.Laid.{part_rest}
-use Rattle.journal.proofs.Walk.{ne_zero, turn_le, turn_whole, whole_not, whole_end}
+use Rattle.journal.specs.Journal.{whole}
+use Rattle.journal.proofs.Walk.{front_le, whole_front, whole_stops}
 use Rattle.journal.proofs.is_whole.Goals as goal
 
-pub loop-at-init : goal.loop-at-init
-loop-at-init c = (search rules, refl)
+pub slice_bounds-rest-count : goal.slice_bounds-rest-count
+slice_bounds-rest-count c = let h = c.in-Some.ensures in omega (arith, h.1, front_le c.args.held c.loop-size.rest.now)
 
-pub returns-then-size-eq0 : goal.returns-then-size-eq0
-returns-then-size-eq0 c =
-    let found : c.front-size.result ≡ front_of (c).args.held (drop (c.loop-at.at) (c).args.bytes.now) = c.front-size.ensures ∙ ap (front_of (c).args.held) (part_rest (c).args.bytes.now (c.loop-at.at)) in
-    sym (whole_not c.args.held (drop c.loop-at.at c.args.bytes.now) (simp length-drop (omega arith)) (sym found ∙ c.if-size-eq0.true))
-    ∙ c.loop-at.invariant.1
+pub slice_bounds-rest-start : goal.slice_bounds-rest-start
+slice_bounds-rest-start c = let h = c.in-Some.ensures in omega (arith, h.1, front_le c.args.held c.loop-size.rest.now)
 
-pub overflow_add-at : goal.overflow_add-at
-overflow_add-at c =
-    let found : c.front-size.result ≡ front_of (c).args.held (drop (c.loop-at.at) (c).args.bytes.now) = c.front-size.ensures ∙ ap (front_of (c).args.held) (part_rest (c).args.bytes.now (c.loop-at.at)) in
-    let turn : (c.loop-at.at + c.front-size.result ≤ length (c).args.bytes.now) × (0 < c.front-size.result) = (turn_le c.args.held _ (c.loop-at.at) c.args.bytes.now found (omega arith), ne_zero _ c.if-size-eq0.false) in
-    let t = turn in omega arith
+pub loop-size-smaller : goal.loop-size-smaller
+loop-size-smaller c =
+    let h = c.in-Some.ensures in
+    let rest = c.loop-size.rest.now in
+    omega (arith, h.0, h.1, front_le c.args.held rest, ap length (part_rest rest c.in-Some.size), length-drop c.in-Some.size rest)
 
-pub loop-at-smaller : goal.loop-at-smaller
-loop-at-smaller c =
-    let found : c.front-size.result ≡ front_of (c).args.held (drop (c.loop-at.at) (c).args.bytes.now) = c.front-size.ensures ∙ ap (front_of (c).args.held) (part_rest (c).args.bytes.now (c.loop-at.at)) in
-    let turn : (c.loop-at.at + c.front-size.result ≤ length (c).args.bytes.now) × (0 < c.front-size.result) = (turn_le c.args.held _ (c.loop-at.at) c.args.bytes.now found (omega arith), ne_zero _ c.if-size-eq0.false) in
-    let t = turn in omega arith
-
-pub loop-at-preserved : goal.loop-at-preserved
-loop-at-preserved c =
-    let found : c.front-size.result ≡ front_of (c).args.held (drop (c.loop-at.at) (c).args.bytes.now) = c.front-size.ensures ∙ ap (front_of (c).args.held) (part_rest (c).args.bytes.now (c.loop-at.at)) in
-    let turn : (c.loop-at.at + c.front-size.result ≤ length (c).args.bytes.now) × (0 < c.front-size.result) = (turn_le c.args.held _ (c.loop-at.at) c.args.bytes.now found (omega arith), ne_zero _ c.if-size-eq0.false) in
-    (turn.0, turn_whole c.args.held _ c.loop-at.at c.args.bytes.now found turn.1 ∙ c.loop-at.invariant.1)
+pub loop-size-preserved : goal.loop-size-preserved
+loop-size-preserved c =
+    let h = c.in-Some.ensures in
+    ap (whole c.args.held 0) (part_rest c.loop-size.rest.now c.in-Some.size)
+    ∙ (sym (whole_front c.args.held c.in-Some.size c.loop-size.rest.now (sym h.1) h.0) ∙ c.loop-size.invariant)
 
 pub returns : goal.returns
-returns c =
-    sym (whole_end c.args.held c.loop-at.at c.args.bytes.now (omega arith)) ∙ c.loop-at.invariant.1
+returns c = c.is_empty.ensures ∙ (whole_stops c.args.held c.loop-size.rest.now c.in_default.ensures ∙ c.loop-size.invariant)

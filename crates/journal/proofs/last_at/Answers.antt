@@ -15,20 +15,21 @@ entry_length-next-requires-in-loop-next c =
     let g = c.loop-next in
     part_whole c.args.held g.next c.args.bytes.now c.loop-next-test.true (seek_whole c.args.held c.args.bytes.now g.at g.next g.invariant)
 
+-- one entry on
+turn : (c : goal.After-entry_length-next-in-loop-next) → Seek c.args.held c.args.bytes.now c.loop-next.next (c.loop-next.next + c.entry_length-next-in-loop-next.result)
+turn c =
+    let g = c.loop-next in
+    let is = c.entry_length-next-in-loop-next.ensures ∙ ap (front_of c.args.held) (part_rest c.args.bytes.now g.next) in
+    seek_next c.args.held c.args.bytes.now g.at g.next c.entry_length-next-in-loop-next.result g.invariant c.loop-next-test.true is
+
 pub overflow_add-next : goal.overflow_add-next
-overflow_add-next c =
-    let turn : Seek (c).args.held (c).args.bytes.now c.loop-next.next (c.loop-next.next + c.entry_length-next-in-loop-next.result) = let g = c.loop-next in seek_next c.args.held c.args.bytes.now g.at g.next c.entry_length-next-in-loop-next.result g.invariant c.loop-next-test.true (c.entry_length-next-in-loop-next.ensures ∙ ap (front_of c.args.held) (part_rest c.args.bytes.now g.next)) in
-    let t = turn in omega arith
+overflow_add-next c = let t = turn c in omega arith
 
 pub loop-next-smaller : goal.loop-next-smaller
-loop-next-smaller c =
-    let turn : Seek (c).args.held (c).args.bytes.now c.loop-next.next (c.loop-next.next + c.entry_length-next-in-loop-next.result) = let g = c.loop-next in seek_next c.args.held c.args.bytes.now g.at g.next c.entry_length-next-in-loop-next.result g.invariant c.loop-next-test.true (c.entry_length-next-in-loop-next.ensures ∙ ap (front_of c.args.held) (part_rest c.args.bytes.now g.next)) in
-    let t = turn in omega arith
+loop-next-smaller c = let t = turn c in omega arith
 
 pub loop-next-preserved : goal.loop-next-preserved
-loop-next-preserved c =
-    let turn : Seek (c).args.held (c).args.bytes.now c.loop-next.next (c.loop-next.next + c.entry_length-next-in-loop-next.result) = let g = c.loop-next in seek_next c.args.held c.args.bytes.now g.at g.next c.entry_length-next-in-loop-next.result g.invariant c.loop-next-test.true (c.entry_length-next-in-loop-next.ensures ∙ ap (front_of c.args.held) (part_rest c.args.bytes.now g.next)) in
-    turn
+loop-next-preserved c = turn c
 
 pub returns : goal.returns
 unfolding before
