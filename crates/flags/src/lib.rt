@@ -13,14 +13,9 @@ fn bits(flags: &[u8]) -> u8
     requires { length flags.now ≤ 8 }
     ensures { result ≡ bits_of 8 flags.now }
 {
-    let mut byte: u8 = 0;
-    let mut i = flags.len();
-    while i > 0 {
-        i -= 1;
-        byte = byte * 2;
-        if flags[i] != 0 {
-            byte += 1;
-        }
+    let mut byte = 0;
+    for i in (0..flags.len()).rev() {
+        byte = byte * 2 + u8::from(flags[i] != 0);
     }
     byte
 }
@@ -30,14 +25,7 @@ pub fn put_flags(reply: &mut [u8], at: usize, flags: &[u8])
     requires { at + 2 * length (eights 0 flags.now) ≤ length reply.old }
     ensures { reply.new ≡ laid reply.old at (digits_in (eights 0 flags.now)) }
 {
-    let mut from = 0;
-    let mut to = at;
-    while flags.len() - from > 8 {
-        put_number(reply, to, 2, bits(&flags[from..from + 8]) as u64);
-        from += 8;
-        to += 2;
-    }
-    if from < flags.len() {
-        put_number(reply, to, 2, bits(&flags[from..]) as u64);
+    for (i, eight) in flags.chunks(8).enumerate() {
+        put_number(reply, at + 2 * i, 2, u64::from(bits(eight)));
     }
 }
