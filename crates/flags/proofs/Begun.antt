@@ -1,15 +1,15 @@
 -- Laws of the bytes that show flags, and a turn of the loop that lays them.
-use Prim.Native.Nat.{ℕ, zero, suc, ◌+◌, ◌-◌, ◌*◌, ◌/◌, ◌≤◌, ◌<◌, min}
+use Prim.Native.Nat.{ℕ, zero, suc, ◌+◌, ◌-◌, ◌*◌, ◌/◌, ◌≤◌, ◌<◌}
 use mathlib.Core.Path.{◌≡◌, refl, sym, ap, ◌∙◌}
-use mathlib.Core.List.{List, [], ◌∷◌, ◌++◌}
+use mathlib.Core.List.{List, [], ◌∷◌}
 use native.Mathlib.Omega.{arith}
-use native.Mathlib.Nat.{suc-add}
-use lib.ListN.{length, take, drop, get_or}
-use lib.Seq.{drop-nil}
+use native.Mathlib.Nat.{suc-add, add-sub_cancel_left}
+use lib.ListN.{length, take, drop, get_or, drop_of_length-le, length-drop}
+use lib.Seq.{drop-nil, drop-drop}
 use Rattle.digits.specs.Digits.{digits_of}
 use Rattle.digits.specs.Laid.{laid}
 use Rattle.digits.proofs.Inverse.{as_many}
-use Rattle.digits.proofs.Laid.{laid_on, laid_nothing}
+use Rattle.digits.proofs.Laid.{laid_on, laid_nothing, part_rest}
 use Rattle.pairs.specs.Pairs.{digits_in}
 use Rattle.flags.specs.Flags.{bits_of, eights}
 use Rattle.flags.proofs.OneByte.{bits_of_part}
@@ -40,51 +40,47 @@ unfolding eights
 first_eight [] h = absurd (omega arith)
 first_eight (flag ∷ flags) h = ap (λ (bytes : List ℕ). bits_of 8 (flag ∷ flags) ∷ bytes) (passed _ flags)
 
--- of a list that is cut after n or where it ends before, the front and what is behind it
-parts : (n : ℕ) (front back : List ℕ) → length front ≡ min n (length (front ++ back)) → (take n (front ++ back) ≡ front) × (drop n (front ++ back) ≡ back)
-parts zero [] r e = (refl, refl)
-parts zero (x ∷ s) r e = absurd (omega arith)
-parts (suc n) [] [] e = (refl, refl)
-parts (suc n) [] (y ∷ r) e = absurd (omega arith)
-parts (suc n) (x ∷ s) r e = let p = parts n s r (omega arith) in (ap (λ (t : List ℕ). x ∷ t) p.0, p.1)
+-- the parts that the code reads show what all flags from there on show
+module _ (flags : List ℕ) (from : ℕ) where
+  pub part_of_eight : bits_of 8 (take (from + 8 - from) (drop from flags)) ≡ bits_of 8 (drop from flags)
+  part_of_eight = rw add-sub_cancel_left (bits_of_part 8 (drop from flags))
 
--- the byte of the next eight, or of as many as are left
-next_eight : (rest eight more : List ℕ) → rest ≡ eight ++ more → length eight ≡ min 8 (length rest) → 0 < length rest
-    → eights 0 rest ≡ bits_of 8 eight ∷ eights 0 more
-next_eight rest eight more e m h =
-    let p = parts 8 eight more (rw e at m) in
-    let s : bits_of 8 (take 8 (eight ++ more)) ≡ bits_of 8 (eight ++ more) = bits_of_part 8 (eight ++ more) in
-    let f = first_eight (eight ++ more) (rw e at h) in
-    cc (e, p.0, p.1, s, f)
+  pub part_of_rest : bits_of 8 (take (length flags - from) (drop from flags)) ≡ bits_of 8 (drop from flags)
+  part_of_rest = rw part_rest
 
--- the rest of the flags is still to be laid
-pub record Left (reply₀ flags : List ℕ) (at : ℕ) (rest : List ℕ) (to : ℕ) (reply : List ℕ) : Type 0 where
-  pub whole : laid reply to (digits_in (eights 0 rest)) ≡ laid reply₀ at (digits_in (eights 0 flags))
-  pub room : to + 2 * length (eights 0 rest) ≤ length reply
+-- the flags from a place on are still to be laid
+pub record Left (reply₀ flags : List ℕ) (at from to : ℕ) (reply : List ℕ) : Type 0 where
+  pub whole : laid reply to (digits_in (eights 0 (drop from flags))) ≡ laid reply₀ at (digits_in (eights 0 flags))
+  pub room : to + 2 * length (eights 0 (drop from flags)) ≤ length reply
+  pub long : length reply ≡ length reply₀
 
-module _ {reply₀ flags : List ℕ} {at : ℕ} {rest : List ℕ} {to : ℕ} {reply : List ℕ} (left : Left reply₀ flags at rest to reply) where
-  module _ (eight more : List ℕ) (cut : rest ≡ eight ++ more) (many : length eight ≡ min 8 (length rest)) (some : 0 < length rest) where
-    now : eights 0 rest ≡ bits_of 8 eight ∷ eights 0 more
-    now = next_eight rest eight more cut many some
+pub left_first : (reply flags : List ℕ) (at : ℕ) → at + 2 * length (eights 0 flags) ≤ length reply → Left reply flags at 0 at reply
+left_first reply flags at h = record { whole = refl; room = h; long = refl }
 
-    room_now : to + 2 * suc (length (eights 0 more)) ≤ length reply
+module _ {reply₀ flags : List ℕ} {at from to : ℕ} {reply : List ℕ} (left : Left reply₀ flags at from to reply) where
+  module _ (more : from < length flags) where
+    now : eights 0 (drop from flags) ≡ bits_of 8 (drop from flags) ∷ eights 0 (drop (from + 8) flags)
+    now = rw (← drop-drop 8 from flags) (first_eight (drop from flags) (simp length-drop (omega arith)))
+
+    room_now : to + 2 * suc (length (eights 0 (drop (from + 8) flags))) ≤ length reply
     room_now = rw now at left.room
 
     -- there is room for two digits
     pub left_fits : to + 2 ≤ length reply
     left_fits = omega (arith, room_now)
 
-    pub left_next : {byte : ℕ} {after : List ℕ} → byte ≡ bits_of 8 eight → after ≡ laid reply to (digits_of 2 byte)
-        → length after ≡ length reply → Left reply₀ flags at more (to + 2) after
+    pub left_next : {byte : ℕ} {after : List ℕ} → byte ≡ bits_of 8 (drop from flags) → after ≡ laid reply to (digits_of 2 byte)
+        → length after ≡ length reply → Left reply₀ flags at (from + 8) (to + 2) after
     left_next {byte} b e l =
         let two : to + length (digits_of 2 byte) ≡ to + 2 = ap (λ (n : ℕ). to + n) (as_many 2 byte) in
         record {
           whole = rw (e, laid_on reply (digits_of 2 byte) _ to (to + 2) two (omega (arith, room_now)), b) (rw now at left.whole);
           room = omega (arith, room_now);
+          long = l ∙ left.long;
         }
 
-pub left_done : {reply₀ flags : List ℕ} {at to : ℕ} {reply : List ℕ} (rest : List ℕ) → Left reply₀ flags at rest to reply → length rest ≡ 0
-    → reply ≡ laid reply₀ at (digits_in (eights 0 flags))
-unfolding eights
-left_done {to = to} {reply = reply} [] left e = sym (laid_nothing reply to) ∙ left.whole
-left_done (x ∷ rest) left e = absurd (omega arith)
+  pub left_done : length flags ≤ from → reply ≡ laid reply₀ at (digits_in (eights 0 flags))
+  unfolding eights
+  left_done h =
+      let e : drop from flags ≡ [] = drop_of_length-le flags h in
+      sym (laid_nothing reply to) ∙ (rw e at left.whole)
