@@ -4,7 +4,6 @@ use mathlib.Core.Path.{◌≡◌, refl, sym, ◌∙◌}
 use mathlib.Core.List.{List, [], ◌∷◌}
 use native.Mathlib.Omega.{arith}
 use native.Mathlib.Nat.{not-suc-le-zero, le_of_suc-le-suc, pow-succ', pow-le-pow_right, zero-div, zero-mod, div-div-eq-div-mul}
-use borrow.Author.Tests.{eq-eqb, ne_eqb}
 use lib.Dec.{eqb}
 use lib.ListN.{length, take, drop, get_or, drop_of_length-le}
 use lib.Seq.{drop-cons}
@@ -14,12 +13,6 @@ use Rattle.flags.specs.Flags.{on_of, bits_of}
 module _ (flag : ℕ) where
   one_bit : on_of flag ≤ 1
   one_bit = either (λ (on : ℕ). on ≤ 1) (eqb flag 0) (λ e. omega arith) (λ e. omega arith)
-
-  pub is_on : (flag ≡ 0 → ⊥) → on_of flag ≡ 1
-  is_on h = rw (ne_eqb flag 0 h)
-
-  pub is_off_lem : flag ≡ 0 → on_of flag ≡ 0
-  is_off_lem h = rw (eq-eqb flag 0 h)
 
 no_flags : (many : ℕ) → bits_of many [] ≡ 0
 unfolding bits_of
@@ -69,6 +62,3 @@ module _ {flags : List ℕ} {byte i : ℕ} (r : Read flags byte i) (some : 0 < i
       let p : 8 - (i - 1) ≡ suc (8 - i) = omega (arith, r.most) in
       let q : suc (i - 1) ≡ i = omega arith in
       record { most = omega (arith, r.most); is = e ∙ rw (p, drop-cons flags (i - 1) 0 (omega (arith, r.most)), q, r.is) }
-
-pub read_done : {flags : List ℕ} {byte i : ℕ} → Read flags byte i → i ≡ 0 → byte ≡ bits_of 8 flags
-read_done r e = rw e at r.is

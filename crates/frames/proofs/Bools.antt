@@ -1,6 +1,5 @@
 -- Laws of tests that are joined.
-use Rattle.std.proofs.Common.{◌≡◌, Bool, true, false, ◌&&◌, ◌||◌, refl, le-ltb, lt-ltb, eq-eqb, ne_eqb, le-leb}
-use borrow.Author.Tests.{lt-leb}
+use Rattle.std.proofs.Common.{◌≡◌, Bool, true, false, ◌&&◌, ◌||◌, refl}
 
 pub and_false : (a : Bool) → a && false ≡ false
 and_false true = refl
@@ -17,6 +16,3 @@ or_false false = refl
 pub and_true : (a : Bool) → a && true ≡ a
 and_true true = refl
 and_true false = refl
-
--- a test that the code made, where a specification asks it
-pub ruleset tests = (lt-ltb, le-ltb, le-leb, lt-leb, eq-eqb, ne_eqb, and_false, and_true)

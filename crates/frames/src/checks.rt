@@ -4,7 +4,7 @@ ghost use Rattle.frames.specs.Frame.{has_testID, shaped, says_number, sum_true, 
 use crate::sums::sum;
 
 // What the sum test says of a frame (document 02, f).
-#[derive(Clone, Copy)]
+#[derive(Debug, Clone, Copy, PartialEq, Eq)]
 pub enum Sum {
     True,
     SwitchedOff,
@@ -15,16 +15,7 @@ pub enum Sum {
 pub fn has_test_id(frame: &[u8]) -> bool
     ensures { result ≡ has_testID frame.now }
 {
-    if frame.len() < 6 {
-        return false;
-    }
-    if frame[3] != 0x32 {
-        return false;
-    }
-    if frame[4] != 0x30 {
-        return false;
-    }
-    frame[5] == 0x30
+    frame.len() >= 6 && frame[3] == b'2' && frame[4] == b'0' && frame[5] == b'0'
 }
 
 // Test 6, passed: '!' first, CR LF last, 10 to 1,023 bytes, a test call of 20.
@@ -32,25 +23,11 @@ pub fn is_shaped(frame: &[u8]) -> bool
     ensures { result ≡ shaped frame.now }
 {
     let n = frame.len();
-    if n < 10 {
-        return false;
-    }
-    if n > 1023 {
-        return false;
-    }
-    if frame[0] != 0x21 {
-        return false;
-    }
-    if frame[n - 2] != 0x0d {
-        return false;
-    }
-    if frame[n - 1] != 0x0a {
-        return false;
-    }
-    if has_test_id(frame) {
-        return n == 20;
-    }
-    true
+    (10..=1023).contains(&n)
+        && frame[0] == b'!'
+        && frame[n - 2] == b'\r'
+        && frame[n - 1] == b'\n'
+        && (!has_test_id(frame) || n == 20)
 }
 
 // A field's number is this one, with the digits that a release admits.
@@ -76,10 +53,7 @@ pub fn is_sum_off(frame: &[u8]) -> bool
     ensures { result ≡ sum_off frame.now }
 {
     let n = frame.len() - 4;
-    if frame[n] != 0x40 {
-        return false;
-    }
-    frame[n + 1] == 0x40
+    frame[n] == b'@' && frame[n + 1] == b'@'
 }
 
 // The sum test, by which 12 and 7 are given: the SC is true, '@@', or neither.
@@ -88,12 +62,12 @@ pub fn test_sum(release: u8, frame: &[u8]) -> Sum
     ensures { result ≡ sum_said release frame.now }
 {
     if is_sum_off(frame) {
-        return Sum::SwitchedOff;
+        Sum::SwitchedOff
+    } else if is_sum_true(release, frame) {
+        Sum::True
+    } else {
+        Sum::Wrong
     }
-    if is_sum_true(release, frame) {
-        return Sum::True;
-    }
-    Sum::Wrong
 }
 
 // Test 8, passed: the station is digits and is this one.

@@ -15,8 +15,7 @@ fn put_pair(area: &mut [u8], at: usize, a: u8, b: u8)
     requires { at + 2 ≤ length area.old }
     ensures { area.new ≡ laid area.old at (a ∷ b ∷ []) }
 {
-    area[at] = a;
-    area[at + 1] = b;
+    area[at..at + 2].copy_from_slice(&[a, b]);
 }
 
 // The three digits of a number as the refusal table prints it.
@@ -24,9 +23,8 @@ fn put_three(area: &mut [u8], at: usize, number: u16)
     requires { at + 3 ≤ length area.old }
     ensures { area.new ≡ laid area.old at (three_of number) }
 {
-    area[at] = digits::byte((number / 100 % 10) as u8);
-    area[at + 1] = digits::byte((number / 10 % 10) as u8);
-    area[at + 2] = digits::byte((number % 10) as u8);
+    let digit = |n: u16| digits::byte((n % 10) as u8);
+    area[at..at + 3].copy_from_slice(&[digit(number / 100), digit(number / 10), digit(number)]);
 }
 
 // Header and station are laid before what stands from byte 3 on, so many bytes, and SC, CR and LF behind it.
@@ -37,10 +35,10 @@ fn close(reply: &mut [u8], header: u8, station: u8, many: usize) -> usize
 {
     let end = many + 3;
     put_byte(reply, 0, header);
-    digits::put_number(reply, 1, 2, station as u64);
+    digits::put_number(reply, 1, 2, u64::from(station));
     let sc = sum(&reply[..end]);
-    digits::put_number(reply, end, 2, sc as u64);
-    put_pair(reply, end + 2, 0x0d, 0x0a);
+    digits::put_number(reply, end, 2, u64::from(sc));
+    put_pair(reply, end + 2, b'\r', b'\n');
     end + 4
 }
 
@@ -50,7 +48,7 @@ pub fn close_reply(reply: &mut [u8], station: u8, many: usize) -> usize
     ensures value { result ≡ many + 7 }
     ensures reply_after { reply.new ≡ laid reply.old 0 (reply_of normal station (take many (drop 3 reply.old))) }
 {
-    close(reply, 0x23, station, many)
+    close(reply, b'#', station, many)
 }
 
 // The ten bytes of an error reply.
@@ -60,5 +58,5 @@ pub fn error_reply(reply: &mut [u8], station: u8, number: u16) -> usize
     ensures reply_after { reply.new ≡ laid reply.old 0 (error_of station number) }
 {
     put_three(reply, 3, number);
-    close(reply, 0x26, station, 3)
+    close(reply, b'&', station, 3)
 }

@@ -11,12 +11,10 @@ fn put_pairs(area: &mut [u8], digits: &[u8], many: usize)
     requires { (length digits.now ≡ 2 * many) × (many ≤ length area.old) × (all_digits digits.now ≡ true) }
     ensures { area.new ≡ laid area.old 0 (bytes_in digits.now) }
 {
-    let mut pair = 0;
-    while pair < many {
+    for pair in 0..many {
         let high = digits::worth(digits[2 * pair]);
         let low = digits::worth(digits[2 * pair + 1]);
         area[pair] = high * 16 + low;
-        pair += 1;
     }
 }
 
@@ -33,9 +31,7 @@ pub fn put_digits(reply: &mut [u8], at: usize, bytes: &[u8])
     requires { at + 2 * length bytes.now ≤ length reply.old }
     ensures { reply.new ≡ laid reply.old at (digits_in bytes.now) }
 {
-    let mut i = 0;
-    while i < bytes.len() {
-        digits::put_number(reply, at + 2 * i, 2, bytes[i] as u64);
-        i += 1;
+    for (i, b) in bytes.iter().enumerate() {
+        digits::put_number(reply, at + 2 * i, 2, u64::from(*b));
     }
 }

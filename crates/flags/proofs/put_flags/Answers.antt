@@ -20,7 +20,7 @@ overflow_add-to c =
 
 pub loop-from-preserved : goal.loop-from-preserved
 loop-from-preserved c =
-    let byte = c.bits.ensures ∙ part_of_eight c.args.flags.now c.loop-from.from in
+    let byte = c.from.ensures ∙ c.bits.ensures ∙ part_of_eight c.args.flags.now c.loop-from.from in
     let p = c.put_number in
     (omega arith, left_next c.loop-from.invariant.1 (omega arith) byte p.ensures p.auto.area)
 
@@ -34,7 +34,7 @@ shape_of-reply-then-from-flags c = c.put_number-then-from-flags.auto.area ∙ c.
 
 pub returns-then-from-flags : goal.returns-then-from-flags
 returns-then-from-flags c =
-    let byte = c.bits-then-from-flags.ensures ∙ part_of_rest c.args.flags.now c.loop-from.from in
+    let byte = c.from-then-from-flags.ensures ∙ c.bits-then-from-flags.ensures ∙ part_of_rest c.args.flags.now c.loop-from.from in
     let p = c.put_number-then-from-flags in
     left_done (left_next c.loop-from.invariant.1 (omega arith) byte p.ensures p.auto.area) (omega arith)
 

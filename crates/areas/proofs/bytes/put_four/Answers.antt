@@ -1,17 +1,10 @@
-use native.Mathlib.Omega.{arith}
-use native.Mathlib.Numerals.{add-one, add-two, add-three}
-use lib.ListN.{length-set}
-use Rattle.digits.proofs.Laid.{stored}
+use Rattle.std.proofs.Common.{◌≡◌, ◌∙◌, arith}
+use Rattle.digits.proofs.Laid.{part_put}
+use Rattle.areas.specs.Bytes.{four_of}
+use Rattle.areas.proofs.BigEndian.{in_four}
 use Rattle.areas.proofs.bytes.put_four.Goals as goal
 
-pub bounds-area-at-2 : goal.bounds-area-at-2
-bounds-area-at-2 c = simp length-set (omega arith)
-
-pub bounds-area-at-3 : goal.bounds-area-at-3
-bounds-area-at-3 c = simp length-set (omega arith)
-
-pub bounds-area-at-4 : goal.bounds-area-at-4
-bounds-area-at-4 c = simp length-set (omega arith)
-
 pub returns : goal.returns
-returns c = rw (add-one, add-two, add-three) (stored c.args.area.now c.args.at _ (omega arith))
+returns c =
+    let e : c.copy_from_slice.new.self ≡ four_of c.args.x = c.copy_from_slice.ensures.after ∙ c.to_be_bytes.ensures ∙ in_four c.args.x (omega arith) in
+    rw e (part_put c.args.area.now _ c.args.at _ (omega arith))

@@ -1,17 +1,6 @@
-use mathlib.Core.Path.{refl}
-use Rattle.areas.proofs.Moves.{laying_first, laying_next, laying_done}
+use Rattle.std.proofs.Common.{arith}
+use Rattle.digits.proofs.Laid.{part_put}
 use Rattle.areas.proofs.runs.put_run.Goals as goal
 
-pub loop-i-init : goal.loop-i-init
-loop-i-init c = laying_first _ _ _ c.requires
-
-pub loop-i-preserved : goal.loop-i-preserved
-loop-i-preserved c =
-    laying_next c.args.area.now c.args.bytes.now c.args.at c.requires c.loop-i.i _ c.loop-i.area c.loop-i.invariant c.loop-i-test.true refl
-
-pub shape_of-area : goal.shape_of-area
-shape_of-area c = c.loop-i.invariant.long
-
 pub returns : goal.returns
-returns c =
-    laying_done c.args.area.now c.args.bytes.now c.args.at c.requires c.loop-i.i c.loop-i.area c.loop-i.invariant c.loop-i-test.false
+returns c = rw c.copy_from_slice.ensures.after (part_put c.args.area.now _ c.args.at _ (omega arith))

@@ -1,15 +1,10 @@
-use Rattle.frames.proofs.Bools.{tests}
+use Rattle.std.proofs.Common.{arith}
+use Rattle.std.proofs.lemmas.Bool.Decides.{nat_tests}
 use Rattle.frames.proofs.TestID.{by_bytes, cut}
 use Rattle.frames.proofs.checks.has_test_id.Goals as goal
 
-pub returns-then-frame-lt6 : goal.returns-then-frame-lt6
-returns-then-frame-lt6 c = rw (cut _ c.if-frame-lt6.true)
+pub returns-then-frame-eq48 : goal.returns-then-frame-eq48
+returns-then-frame-eq48 c = rw (by_bytes _) (grind (arith, nat_tests))
 
-pub returns-then-frame-ne50 : goal.returns-then-frame-ne50
-returns-then-frame-ne50 c = rw (by_bytes _) (search (tests))
-
-pub returns-then-frame-ne48 : goal.returns-then-frame-ne48
-returns-then-frame-ne48 c = rw (by_bytes _) (search (tests))
-
-pub returns : goal.returns
-returns c = rw (by_bytes _) (search (tests))
+pub returns-else-frame-eq48 : goal.returns-else-frame-eq48
+returns-else-frame-eq48 c = grind (arith, nat_tests, by_bytes, cut)

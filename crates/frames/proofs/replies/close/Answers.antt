@@ -10,5 +10,5 @@ returns c =
     let a = c.args in
     record {
       value = omega arith;
-      reply_after = closing a.reply.now a.header a.station a.many (omega arith) _ _ _ _ _ c.put_byte.ensures c.put_number.ensures c.sum-sc.ensures c.put_number-2.ensures c.put_pair.ensures;
+      reply_after = closing a.reply.now a.header a.station a.many (omega arith) _ _ _ _ _ c.put_byte.ensures (rw c.from.ensures at c.put_number.ensures) c.sum-sc.ensures (rw c.from-2.ensures at c.put_number-2.ensures) c.put_pair.ensures;
     }

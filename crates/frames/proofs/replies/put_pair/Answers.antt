@@ -1,9 +1,6 @@
-use Rattle.std.proofs.Common.{add-one, arith, length-set}
-use Rattle.digits.proofs.Laid.{stored}
+use Rattle.std.proofs.Common.{arith}
+use Rattle.digits.proofs.Laid.{part_put}
 use Rattle.frames.proofs.replies.put_pair.Goals as goal
 
-pub bounds-area-at-2 : goal.bounds-area-at-2
-bounds-area-at-2 c = simp length-set (omega arith)
-
 pub returns : goal.returns
-returns c = rw add-one (stored c.args.area.now c.args.at _ (omega arith))
+returns c = rw c.copy_from_slice.ensures.after (part_put c.args.area.now _ c.args.at _ (omega arith))

@@ -1,15 +1,12 @@
-use Rattle.std.proofs.Common.{add-one, arith, length-set}
-use native.Mathlib.Numerals.{add-two}
-use Rattle.digits.proofs.Laid.{stored}
+use Rattle.std.proofs.Common.{rules, ◌≡◌, ◌/◌, ◌%◌, arith}
+use Rattle.digits.specs.Digits.{byte_of}
+use Rattle.digits.proofs.Laid.{part_put}
 use Rattle.frames.proofs.replies.put_three.Goals as goal
-
-pub bounds-area-at-2 : goal.bounds-area-at-2
-bounds-area-at-2 c = simp length-set (omega arith)
-
-pub bounds-area-at-3 : goal.bounds-area-at-3
-bounds-area-at-3 c = simp length-set (omega arith)
 
 pub returns : goal.returns
 returns c =
-    let a = c.args in
-    rw (add-one, add-two, c.byte.ensures, c.byte-2.ensures, c.byte-3.ensures) (stored a.area.now a.at _ (omega arith))
+    let n = c.args.number in
+    let a : c.digit.result ≡ byte_of (n / 100 % 10) = search rules in
+    let b : c.digit-2.result ≡ byte_of (n / 10 % 10) = search rules in
+    let d : c.digit-3.result ≡ byte_of (n % 10) = search rules in
+    rw (c.copy_from_slice.ensures.after, a, b, d) (part_put c.args.area.now _ c.args.at _ (omega arith))

@@ -1,9 +1,9 @@
-use Rattle.std.proofs.Common.{arith}
-use Rattle.frames.proofs.Turns.{sum_next, sum_done}
+use Rattle.std.proofs.Common.{rules, ◌≡◌, ℕ, ◌+◌, ◌%◌, ◌∙◌, zero-add, arith}
+use Rattle.std.specs.List.{fold}
+use Rattle.frames.proofs.Turns.{folded}
 use Rattle.frames.proofs.sums.sum.Goals as goal
 
-pub loop-i-preserved : goal.loop-i-preserved
-loop-i-preserved c = omega (arith, sum_next c.args.s.now c.loop-i.i (omega arith))
-
 pub returns : goal.returns
-returns c = omega (arith, sum_done c.args.s.now c.loop-i.i (omega arith))
+returns c =
+    let e : c.fold.result ≡ fold (λ (total b : ℕ). (total + b) % 256) 0 c.args.s.now = search rules in
+    e ∙ folded 0 c.args.s.now (omega arith) ∙ rw zero-add
