@@ -5,8 +5,7 @@ use Rattle.std.proofs.Common.{to_z}
 use Rattle.areas.specs.Bytes.{two_at, four_at}
 use Rattle.points.specs.Units.{position}
 use Rattle.axes.specs.declared.AxisRecord.{AxisRecord}
-use Rattle.axes.specs.Records.{Axes}
-use Rattle.axes.specs.Records.{eight_axes, no_axes}
+use Rattle.axes.specs.Records.{Axes, eight_axes, no_axes}
 
 -- "nine a record": status (1), sensor (1), error code (2), encoder (1), position (4, signed), "high byte first"
 unfoldable pub record_in : List ℕ → AxisRecord

@@ -1,8 +1,7 @@
 -- Document 01, "The areas": the eight axis records, "lent by the motion board as one run of records".
 use Rattle.std.specs.Prelude.{cond, List, eqb, length}
 use Rattle.axes.specs.declared.AxisRecord.{AxisRecord}
-use Rattle.axes.specs.Records.{Axes}
-use Rattle.axes.specs.Records.{eight_axes, no_axes}
+use Rattle.axes.specs.Records.{Axes, eight_axes, no_axes}
 
 -- the axes "lent by the motion board as one run of records": a run of eight, or not eight
 abbrev pub lent_axes : List AxisRecord → Axes

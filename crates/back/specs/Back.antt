@@ -1,7 +1,6 @@
 -- Document 01, "Journal" and "Refusal numbers", and document 02, requests a, b and f: what a step back leaves, and its contract.
-use Rattle.std.specs.Prelude.{◌≡◌, cond, eqb}
+use Rattle.std.specs.Prelude.{◌≡◌, cond, eqb, None}
 use Rattle.kinds.specs.Kinds.{held_in}
-use Rattle.std.specs.Prelude.{None}
 use Rattle.calls.specs.Calls.{Areas, Outcome, lengths_of, unanswered, stepped_back}
 use Rattle.refusals.specs.Refusals.{back_refusal_of}
 use Rattle.back.specs.declared.Back.{Back}

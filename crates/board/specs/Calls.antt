@@ -1,12 +1,11 @@
 -- The C calls (include/cabinet.h): what stands behind each number that is handed over or back.
-use Rattle.std.specs.Prelude.{ℕ, ◌-◌, ◌≡◌, not, List, eqb}
+use Rattle.std.specs.Prelude.{ℕ, ◌-◌, ◌≡◌, not, List, eqb, Option}
 use Rattle.finder.specs.declared.Found.{Found}
 use Rattle.finder.specs.declared.Found.TheVariants.{Frame, Nothing, Wait, TooLong}
 use Rattle.finder.specs.Find.{drop_of}
 use Rattle.kinds.specs.declared.Firsts.{Firsts}
 use Rattle.calls.specs.declared.Settings.{Settings}
 use Rattle.calls.specs.declared.Kept.{Kept}
-use Rattle.std.specs.Prelude.{Option}
 use Rattle.frames.specs.declared.checks.Sum.{Sum}
 use Rattle.calls.specs.Calls.{Areas, Call, Outcome, sum_code}
 use Rattle.messages.specs.declared.Shown.{Shown}

@@ -1,5 +1,5 @@
 -- Document 01, "The areas", and document 02, requests a, b, f and l: all that is handed over with a frame, and all that comes back.
-use Rattle.std.specs.Prelude.{ℕ, cond, List, [], eqb, length, take, replicate}
+use Rattle.std.specs.Prelude.{ℕ, cond, List, [], eqb, length, take, replicate, Option, None, Some}
 use Rattle.kinds.specs.declared.Held.{Held}
 use Rattle.kinds.specs.declared.Lengths.{Lengths}
 use Rattle.kinds.specs.declared.Firsts.{Firsts}
@@ -10,9 +10,7 @@ use Rattle.points.specs.Point.{effective_in}
 use Rattle.calls.specs.declared.Settings.{Settings}
 use Rattle.calls.specs.declared.Kept.{Kept}
 use Rattle.frames.specs.declared.checks.Sum.TheVariants.{True, SwitchedOff, Wrong}
-use Rattle.std.specs.Prelude.{Option}
 use Rattle.frames.specs.declared.checks.Sum.{Sum}
-use Rattle.std.specs.Prelude.{None, Some}
 
 -- the areas that are used throughout, with the numbers that are kept beside them and the first numbers that settings give (02, a)
 pub record Areas : Type 0 where

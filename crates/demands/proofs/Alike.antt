@@ -19,9 +19,7 @@ use Rattle.table.specs.declared.Action.TheVariants.{SayBack, CountPoints, ListPo
 use Rattle.table.specs.declared.Message.{Message}
 use Rattle.std.specs.Prelude.{Option}
 use Rattle.table.specs.Table.{message_of, rest_in}
-use Rattle.messages.specs.Asked.{Asked}
-use Rattle.messages.specs.Asked.{Refused, Order}
-use Rattle.messages.specs.Asked.{asked_of, judged, number_given}
+use Rattle.messages.specs.Asked.{Asked, Refused, Order, asked_of, judged, number_given}
 use Rattle.calls.specs.Calls.{Areas, Sent, Call, call_of, lengths_of, area_in, written}
 use Rattle.refusals.specs.Refusals.{axes_fit, release_fits, miscounted, silent_of}
 use Rattle.refusals.proofs.Rows.{forbidden, area_number, late_number, early_number, early_rows, silent_is, call_passed, same_told_after}

@@ -20,12 +20,9 @@ use Rattle.table.specs.declared.Follows.{Follows}
 use Rattle.table.specs.declared.Follows.TheVariants.{Nothing}
 use Rattle.table.specs.declared.Action.{Action}
 use Rattle.table.specs.declared.Message.{Message}
-use Rattle.std.specs.Prelude.{Option}
-use Rattle.std.specs.Prelude.{Some}
-use Rattle.messages.specs.Asked.{Asked}
-use Rattle.messages.specs.Asked.{Order}
+use Rattle.std.specs.Prelude.{Option, Some}
+use Rattle.messages.specs.Asked.{Asked, Order, asked_of, judged, number_given}
 use Rattle.table.specs.Table.{row, message_of, fields_of, program_in, start_in, count_in, any_bytes}
-use Rattle.messages.specs.Asked.{asked_of, judged, number_given}
 use Rattle.messages.proofs.Judged.{Right, told, ordered}
 use Rattle.messages.proofs.Capitals as capital
 use Rattle.kinds.specs.Kinds.{kind_of, held_in, holds}

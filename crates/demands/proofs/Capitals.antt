@@ -12,7 +12,7 @@ use lib.Seq.{length-take-le}
 use mir.Syntax.{w32}
 use mir.Val.{of_z}
 use borrow.Author.Tests.{eqb-true}
-use Rattle.axes.specs.Records.{records_of}
+use Rattle.axes.specs.Records.{records_of, zero_record}
 use Rattle.digits.specs.Digits.{byte_of, capital, capitals, digits_of, admitted, number_of}
 use Rattle.digits.specs.Text.{text}
 use Rattle.digits.proofs.Bools.{either}
@@ -22,7 +22,6 @@ use Rattle.digits.proofs.Capitals.{length_capitals, capitals_append}
 use Rattle.frames.specs.Frame.{normal, error, CR, LF, message_in, content_in, sc_of, low_byte, three_of, reply_of, error_of}
 use Rattle.kinds.specs.Kinds.{points_of, kind_of, place_of, run_of}
 use Rattle.axes.specs.declared.AxisRecord.{AxisRecord}
-use Rattle.axes.specs.Records.{zero_record}
 use Rattle.pairs.specs.Pairs.{digits_in}
 use Rattle.flags.specs.Flags.{eights}
 use Rattle.points.specs.declared.units.Position.{Position}
@@ -36,9 +35,7 @@ use Rattle.table.specs.declared.Action.TheVariants.{SayBack, CountPoints, ListPo
 use Rattle.table.specs.declared.Message.{Message}
 use Rattle.std.specs.Prelude.{Some, None}
 use Rattle.table.specs.Table.{messages, named_in, message_numbered, message_of, any_bytes}
-use Rattle.messages.specs.Asked.{Asked}
-use Rattle.messages.specs.Asked.{Refused, Order}
-use Rattle.messages.specs.Asked.{asked_of}
+use Rattle.messages.specs.Asked.{Asked, Refused, Order, asked_of}
 use Rattle.messages.proofs.Judged.{told}
 use Rattle.messages.proofs.Shapes.{in_frame, Shape, shaped}
 use Rattle.heads.specs.Heads.{id_of, head_of}

@@ -21,8 +21,7 @@ use Rattle.kinds.specs.Kinds.{points_tag, columns_tag, integers_tag, flags_tag}
 use Rattle.table.specs.declared.Follows.TheVariants.{Nothing, TenBytes, Points, RunBytes, ChangeType}
 use Rattle.table.specs.declared.Action.TheVariants.{SayBack, CountPoints, ListPoints, ReadRun, WritePoints, ClearRun, ChangeRun, ShowFlags, SetFlag}
 use Rattle.table.specs.declared.Message.{Message}
-use Rattle.std.specs.Prelude.{Option}
-use Rattle.std.specs.Prelude.{Some, None}
+use Rattle.std.specs.Prelude.{Option, Some, None}
 use Rattle.table.specs.Table.{row, message_numbered, message_of}
 use Rattle.messages.proofs.Shapes.{in_frame}
 use Rattle.calls.specs.Calls.{Sent}

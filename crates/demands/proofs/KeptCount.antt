@@ -18,12 +18,9 @@ use Rattle.journal.specs.Journal.{last_entry, puts}
 use Rattle.journal.proofs.Codec.{Bytes}
 use Rattle.journal.proofs.Back.{before, stands}
 use Rattle.table.specs.declared.Message.{Message}
-use Rattle.std.specs.Prelude.{Option}
-use Rattle.std.specs.Prelude.{Some, None}
+use Rattle.std.specs.Prelude.{Option, Some, None}
 use Rattle.table.specs.Table.{messages, message_numbered, message_of}
-use Rattle.messages.specs.Asked.{Asked}
-use Rattle.messages.specs.Asked.{Refused, Order}
-use Rattle.messages.specs.Asked.{asked_of, number_given}
+use Rattle.messages.specs.Asked.{Asked, Refused, Order, asked_of, number_given}
 use Rattle.messages.proofs.Judged.{told}
 use Rattle.messages.proofs.Shapes.{Each, in_frame}
 use Rattle.calls.specs.Calls.{Areas, Call, Outcome, lengths_of, entries_of}

@@ -14,8 +14,7 @@ use Rattle.kinds.specs.Kinds.{kind_of, size_of, run_of}
 use Rattle.kinds.proofs.Known.{within}
 use Rattle.journal.specs.Journal.{Entry}
 use Rattle.table.specs.declared.Message.{Message}
-use Rattle.std.specs.Prelude.{Option}
-use Rattle.std.specs.Prelude.{Some}
+use Rattle.std.specs.Prelude.{Option, Some}
 use Rattle.table.specs.Table.{start_in, count_in}
 use Rattle.messages.specs.Asked.{asked_of}
 use Rattle.messages.proofs.Judged.{told}

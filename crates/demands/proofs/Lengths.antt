@@ -20,8 +20,7 @@ use Rattle.table.specs.declared.Action.{Action}
 use Rattle.table.specs.declared.Action.TheVariants.{SayBack, CountPoints, ListPoints, ReadRun, AxisStatus, WritePoints, ClearRun, ChangeRun, ShowFlags, SetFlag}
 use Rattle.table.specs.declared.Message.{Message}
 use Rattle.table.specs.Table.{Narrow}
-use Rattle.messages.specs.Asked.{Asked}
-use Rattle.messages.specs.Asked.{Refused, Order}
+use Rattle.messages.specs.Asked.{Asked, Refused, Order}
 use Rattle.listing.specs.Listing.{listing, listed, joined}
 use Rattle.heads.specs.Heads.{head_of, run_text, flags_text}
 use Rattle.queries.specs.Replies.{list_text}

@@ -12,16 +12,13 @@ use Rattle.kinds.proofs.Promised.{run}
 use Rattle.table.specs.declared.Action.{Action}
 use Rattle.table.specs.declared.Action.TheVariants.{SayBack, CountPoints, ListPoints, ReadRun, AxisStatus, WritePoints, ClearRun, ChangeRun, ShowFlags, SetFlag}
 use Rattle.table.specs.declared.Message.{Message}
-use Rattle.std.specs.Prelude.{Some}
-use Rattle.messages.specs.Asked.{Asked}
-use Rattle.messages.specs.Asked.{Refused, Order}
+use Rattle.std.specs.Prelude.{Some, None}
+use Rattle.messages.specs.Asked.{Asked, Refused, Order, number_given}
 use Rattle.messages.specs.declared.Shown.{Shown}
-use Rattle.messages.specs.Asked.{number_given}
 use Rattle.messages.specs.Shown.{names_run, shown_of}
 use Rattle.messages.proofs.Judged.{refused_from}
 use Rattle.messages.proofs.Promised.{judgement}
 use Rattle.messages.proofs.Shapes.{Shape, shaped}
-use Rattle.std.specs.Prelude.{None}
 use Rattle.calls.specs.Calls.{Areas, Call, Outcome, area_in, written, sum_code}
 use Rattle.refusals.specs.Refusals.{too_short, area_rows, check_rows, late_rows, count_rows, check_early, late, check_silent_of}
 use Rattle.orders.specs.Orders.{writes}

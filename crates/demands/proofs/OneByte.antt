@@ -9,9 +9,8 @@ use Rattle.frames.specs.declared.checks.Sum.TheVariants.{True, Wrong}
 use Rattle.frames.specs.Frame.{shaped, says_number, sum_true, sum_said, station_passes}
 use Rattle.frames.proofs.Three.{said_true}
 use Rattle.messages.specs.Rows.{first_of}
-use Rattle.std.specs.Prelude.{Option}
+use Rattle.std.specs.Prelude.{Option, None, Some}
 use Rattle.frames.specs.declared.checks.Sum.{Sum}
-use Rattle.std.specs.Prelude.{None, Some}
 use Rattle.calls.specs.Calls.{Call, Outcome, lengths_of, sum_code, unanswered}
 use Rattle.refusals.specs.Refusals.{early}
 use Rattle.refusals.proofs.Rows.{EarlyPassed, past_early, told_said}

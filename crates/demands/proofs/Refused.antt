@@ -14,18 +14,13 @@ use Rattle.digits.proofs.Laid.{laid_nothing, laid_front}
 use Rattle.frames.specs.Frame.{content_in, shaped, error_of}
 use Rattle.frames.proofs.Closing.{length_reply}
 use Rattle.kinds.specs.declared.Held.{Held}
-use Rattle.std.specs.Prelude.{Option}
+use Rattle.std.specs.Prelude.{Option, Some, None}
 use Rattle.table.specs.declared.Message.{Message}
-use Rattle.std.specs.Prelude.{Some, None}
-use Rattle.messages.specs.Asked.{Asked}
-use Rattle.messages.specs.Asked.{Refused, Order}
+use Rattle.messages.specs.Asked.{Asked, Refused, Order, asked_rows, number_given}
 use Rattle.messages.specs.Rows.{Row, first_of}
 use Rattle.table.specs.Table.{message_of}
-use Rattle.messages.specs.Asked.{asked_rows, number_given}
 use Rattle.messages.proofs.Judged.{asked_from}
-use Rattle.std.specs.Prelude.{Option}
 use Rattle.frames.specs.declared.checks.Sum.{Sum}
-use Rattle.std.specs.Prelude.{None}
 use Rattle.calls.specs.Calls.{Areas, Call, Outcome, lengths_of, unanswered}
 use Rattle.refusals.specs.Refusals.{axes_fit, release_fits, area_rows, check_rows, late_rows, count_rows, early, silent, silent_of, told_of, refusal_of, back_rows, back_refusal_of}
 use Rattle.link.specs.Answer.{held, asked, areas_after, text_of, answer_of}

@@ -26,15 +26,11 @@ use Rattle.points.proofs.Capitals.{same_slots}
 use Rattle.table.specs.declared.Action.{Action}
 use Rattle.table.specs.declared.Action.TheVariants.{SayBack, CountPoints, ListPoints, ReadRun, AxisStatus, WritePoints, ClearRun, ChangeRun, ShowFlags, SetFlag}
 use Rattle.table.specs.declared.Message.{Message}
-use Rattle.std.specs.Prelude.{Option}
-use Rattle.std.specs.Prelude.{Some, None}
+use Rattle.std.specs.Prelude.{Option, Some, None}
 use Rattle.table.specs.Table.{message_numbered, message_of, rest_in, any_bytes}
-use Rattle.messages.specs.Asked.{Asked}
-use Rattle.messages.specs.Asked.{Order}
-use Rattle.messages.specs.Asked.{not_digits, asked_of, judged, number_given}
+use Rattle.messages.specs.Asked.{Asked, Order, not_digits, asked_of, judged, number_given}
 use Rattle.messages.proofs.Judged.{Right, told, ordered, as_admitted}
 use Rattle.messages.proofs.Capitals.{same_rest, same_judged}
-use Rattle.std.specs.Prelude.{Some}
 use Rattle.calls.specs.Calls.{Areas, Sent, Call, Outcome, lengths_of}
 use Rattle.refusals.specs.Refusals.{release_fits, miscounted, silent_of, told_of}
 use Rattle.refusals.proofs.Rows.{silent_is, past_silent, call_passed, heard_told}

@@ -11,10 +11,8 @@ use Rattle.frames.specs.Frame.{normal, three_of, content_in, reply_of}
 use Rattle.frames.proofs.Promised.{reply}
 use Rattle.table.specs.declared.Message.{Message}
 use Rattle.std.specs.Prelude.{Some}
-use Rattle.messages.specs.Asked.{Asked}
-use Rattle.messages.specs.Asked.{Refused, Order}
+use Rattle.messages.specs.Asked.{Asked, Refused, Order, asked_of, number_given}
 use Rattle.demands.specs.History.{message_by}
-use Rattle.messages.specs.Asked.{asked_of, number_given}
 use Rattle.messages.proofs.Judged.{refused_some, told}
 use Rattle.calls.specs.Calls.{Call, Outcome}
 use Rattle.link.specs.Answer.{held, asked, text_of, answer_of}

@@ -16,12 +16,9 @@ use Rattle.frames.proofs.Bools.{and_false}
 use Rattle.frames.proofs.Three.{neither, said_off, one_of_three}
 use Rattle.messages.specs.Rows.{first_of}
 use Rattle.kinds.specs.declared.Held.{Held}
-use Rattle.std.specs.Prelude.{Option}
+use Rattle.std.specs.Prelude.{Option, Some, None}
 use Rattle.table.specs.declared.Message.{Message}
-use Rattle.std.specs.Prelude.{Some, None}
 use Rattle.messages.specs.Asked.{asked_rows, number_given}
-use Rattle.std.specs.Prelude.{Option}
-use Rattle.std.specs.Prelude.{None, Some}
 use Rattle.calls.specs.Calls.{Call, Outcome, lengths_of, unanswered}
 use Rattle.refusals.specs.Refusals.{area_rows, check_rows, late_rows, count_rows, early, silent_of, told_of}
 use Rattle.refusals.specs.Refusals.{late as lates}

@@ -19,10 +19,8 @@ use Rattle.journal.proofs.Codec.{length_encode}
 use Rattle.journal.proofs.Again.{good_added}
 use Rattle.journal.proofs.Fitting.{good}
 use Rattle.table.specs.declared.Message.{Message}
-use Rattle.messages.specs.Asked.{Asked}
-use Rattle.messages.specs.Asked.{Refused, Order}
+use Rattle.messages.specs.Asked.{Asked, Refused, Order, asked_of}
 use Rattle.table.specs.Table.{rest_in}
-use Rattle.messages.specs.Asked.{asked_of}
 use Rattle.calls.specs.Calls.{Areas, Sent, Outcome, area_in, put_in, old_entry, written}
 use Rattle.calls.proofs.Tagged.{each_long, same_areas, counted_after}
 use Rattle.orders.specs.Orders.{writes, new_bytes}

@@ -1,15 +1,13 @@
 -- Demand 3: histories of frames and steps back, from fresh. "use the same ones throughout, hand each call the used length the last one handed back,
 -- and let nothing else write them"; "demand 3 asks that handing on too" of the count, "from count 0" (02, b); the first numbers stay too: "while the
 -- settings stay as they were at fresh" (02, a). Station, axes, release and whether '@@' is allowed come with each frame.
-use Rattle.std.specs.Prelude.{ℕ, ◌≤◌, ◌≡◌, ◌↔◌, Bool, true, false, cond, ◌&&◌, List, [], ◌∷◌, ◌++◌, eqb, length}
+use Rattle.std.specs.Prelude.{ℕ, ◌≤◌, ◌≡◌, ◌↔◌, Bool, true, false, cond, ◌&&◌, List, [], ◌∷◌, ◌++◌, eqb, length, Option, Some, None}
 use Rattle.kinds.specs.declared.Held.{Held}
 use Rattle.kinds.specs.Kinds.{kind_of, held_in, Sound}
 use Rattle.frames.specs.Frame.{content_in}
 use Rattle.journal.specs.Journal.{Entry, encodes, added, area_of, others, entry_for}
 use Rattle.points.specs.Point.{effective_in}
-use Rattle.std.specs.Prelude.{Option}
 use Rattle.table.specs.declared.Message.{Message}
-use Rattle.std.specs.Prelude.{Some, None}
 use Rattle.table.specs.Table.{message_of, start_in, count_in, rest_in}
 use Rattle.calls.specs.Calls.{Areas, Sent, Call, Outcome, fresh, lengths_of, area_in, put_in, entries_of, old_entry}
 use Rattle.refusals.specs.Refusals.{least_journal, refusal_of}

@@ -1,12 +1,10 @@
 -- Document 02, request b, "A count that is kept": what each call hands on, what 208H replies, and refusal 11, of any board.
-use Rattle.std.specs.Prelude.{ℕ, ◌<◌, ◌≡◌, ◌↔◌, Bool, true, false, cond, not, ◌||◌, List, [], ◌++◌, eqb, ltb, length, get_or}
+use Rattle.std.specs.Prelude.{ℕ, ◌<◌, ◌≡◌, ◌↔◌, Bool, true, false, cond, not, ◌||◌, List, [], ◌++◌, eqb, ltb, length, get_or, Option, Some, None}
 use Rattle.digits.specs.Digits.{digits_of}
 use Rattle.digits.specs.Text.{text}
 use Rattle.frames.specs.Frame.{normal, message_in, reply_of}
 use Rattle.kinds.specs.Kinds.{held_in}
-use Rattle.std.specs.Prelude.{Option}
 use Rattle.table.specs.declared.Message.{Message}
-use Rattle.std.specs.Prelude.{Some, None}
 use Rattle.messages.specs.Rows.{first_of}
 use Rattle.calls.specs.Calls.{Areas, Call, Outcome, areas_of, call_of, lengths_of}
 use Rattle.refusals.specs.Refusals.{area_rows, late_rows, early}

@@ -1,14 +1,11 @@
 -- Document 02, request g: "The panel wants to show "write 45 points from 001" and ask." A check, and then an act with nothing between, over whole calls.
-use Rattle.std.specs.Prelude.{ℕ, ◌≤◌, ◌≡◌, true, false, cond, List, [], length}
+use Rattle.std.specs.Prelude.{ℕ, ◌≤◌, ◌≡◌, true, false, cond, List, [], length, Some, Option, None}
 use Rattle.kinds.specs.declared.Kind.{Kind}
 use Rattle.kinds.specs.Kinds.{kind_of, run_of}
 use Rattle.table.specs.declared.Message.{Message}
-use Rattle.std.specs.Prelude.{Some}
 use Rattle.messages.specs.declared.Shown.{Shown}
 use Rattle.messages.specs.Shown.{names_run}
-use Rattle.std.specs.Prelude.{Option}
 use Rattle.frames.specs.declared.checks.Sum.{Sum}
-use Rattle.std.specs.Prelude.{None}
 use Rattle.calls.specs.Calls.{Areas, Call, Outcome, call_of, area_in, written}
 use Rattle.refusals.specs.Refusals.{too_short}
 use Rattle.orders.specs.Orders.{rest, writes, new_bytes}

@@ -1,11 +1,10 @@
 -- Demand 2 of the sum, for service: "take a frame with a true SC that passes tests 6 and 7, and change exactly one of its bytes to any other value."
 -- (02, n)
-use Rattle.std.specs.Prelude.{ℕ, ◌+◌, ◌-◌, ◌<◌, ◌≡◌, ◌⊎◌, Bool, true, cond, not, ◌||◌, List, eqb, length, get_or}
+use Rattle.std.specs.Prelude.{ℕ, ◌+◌, ◌-◌, ◌<◌, ◌≡◌, ◌⊎◌, Bool, true, cond, not, ◌||◌, List, eqb, length, get_or, None, Some}
 use Rattle.digits.specs.Digits.{capital}
 use Rattle.frames.specs.declared.checks.Sum.TheVariants.{Wrong}
 use Rattle.frames.specs.Frame.{test_call_fits, sum_true}
 use Rattle.messages.specs.Rows.{first_of}
-use Rattle.std.specs.Prelude.{None, Some}
 use Rattle.calls.specs.Calls.{Call, Outcome, unanswered}
 use Rattle.refusals.specs.Refusals.{early}
 use Rattle.demands.specs.History.{Conduct}

@@ -1,5 +1,5 @@
 -- Demand 2: how a board is asked, and what its answers say of the numbers that a write named.
-use Rattle.std.specs.Prelude.{ℕ, zero, suc, ◌+◌, ◌-◌, ◌*◌, ◌<◌, ◌≤◌, ◌≡◌, Bool, true, cond, not, ◌&&◌, ◌||◌, List, [], ◌∷◌, ◌++◌, leb, eqb, length, take, drop, get_or}
+use Rattle.std.specs.Prelude.{ℕ, zero, suc, ◌+◌, ◌-◌, ◌*◌, ◌<◌, ◌≤◌, ◌≡◌, Bool, true, cond, not, ◌&&◌, ◌||◌, List, [], ◌∷◌, ◌++◌, leb, eqb, length, take, drop, get_or, Option, Some, None}
 use Rattle.digits.specs.Digits.{capitals, number_of, digits_of}
 use Rattle.digits.specs.Text.{text}
 use Rattle.frames.specs.Frame.{command, normal, CR, LF, content_in, sc_of, reply_of}
@@ -10,8 +10,6 @@ use Rattle.pairs.specs.Pairs.{digits_in}
 use Rattle.flags.specs.Flags.{eights, bit_at}
 use Rattle.points.specs.Point.{length_of}
 use Rattle.table.specs.declared.Message.{Message}
-use Rattle.std.specs.Prelude.{Option}
-use Rattle.std.specs.Prelude.{Some, None}
 use Rattle.table.specs.Table.{start_in, count_in, rest_in}
 use Rattle.listing.specs.Listing.{listed as listedIn, joined}
 use Rattle.calls.specs.Calls.{Areas, Sent, Call, call_of, lengths_of, area_in}

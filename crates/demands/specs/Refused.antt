@@ -2,8 +2,7 @@
 use Rattle.std.specs.Prelude.{ℕ, ◌≤◌, ◌<◌, ◌≡◌, Bool, true, false, ◌||◌, List, [], ◌∷◌, eqb, length, drop}
 use Rattle.digits.specs.Laid.{laid}
 use Rattle.frames.specs.Frame.{error_of}
-use Rattle.messages.specs.Asked.{Asked}
-use Rattle.messages.specs.Asked.{Refused, Order}
+use Rattle.messages.specs.Asked.{Asked, Refused, Order}
 use Rattle.calls.specs.Calls.{Areas, Call}
 use Rattle.refusals.specs.Refusals.{silent_of, refusal_of, back_refusal_of}
 use Rattle.link.specs.Answer as link

@@ -1,13 +1,12 @@
 -- Demand 2: "the store's numbers and codes survive writing and reading back with every digit", over calls as they are made, one after the other, and
 -- over histories.
-use Rattle.std.specs.Prelude.{ℕ, ◌+◌, ◌*◌, ◌<◌, ◌≤◌, ◌≡◌, true, false, List, [], ◌∷◌, ◌++◌, length, get_or}
+use Rattle.std.specs.Prelude.{ℕ, ◌+◌, ◌*◌, ◌<◌, ◌≤◌, ◌≡◌, true, false, List, [], ◌∷◌, ◌++◌, length, get_or, Some}
 use Rattle.digits.specs.Text.{text}
 use Rattle.frames.specs.Frame.{sc_in}
 use Rattle.kinds.specs.declared.Kind.{Kind}
 use Rattle.kinds.specs.Kinds.{points_of, kind_of, place_of, run_of}
 use Rattle.points.specs.Point.{effective_in}
 use Rattle.table.specs.declared.Message.{Message}
-use Rattle.std.specs.Prelude.{Some}
 use Rattle.calls.specs.Calls.{Sent, Call, area_in}
 use Rattle.refusals.specs.Refusals.{refusal_of}
 use Rattle.orders.specs.Orders.{writes}

@@ -1,12 +1,11 @@
 -- Demand 2 of the sum: "One site wants '@@' forbidden, and the service log should say which frames used it." (02, f)
-use Rattle.std.specs.Prelude.{ℕ, ◌≡◌, ◌↔◌, Bool, true, false, cond, not, ◌||◌, List, [], ◌∷◌, ◌++◌, eqb, length}
+use Rattle.std.specs.Prelude.{ℕ, ◌≡◌, ◌↔◌, Bool, true, false, cond, not, ◌||◌, List, [], ◌∷◌, ◌++◌, eqb, length, None, Some}
 use Rattle.digits.specs.Laid.{laid}
 use Rattle.digits.specs.Text.{text}
 use Rattle.frames.specs.declared.checks.Sum.TheVariants.{SwitchedOff, Wrong}
 use Rattle.frames.specs.Frame.{sc_in, sum_true, sum_off, sum_said, station_passes}
 use Rattle.messages.specs.Rows.{◌when◌, first_of}
 use Rattle.messages.specs.Asked.{number_given}
-use Rattle.std.specs.Prelude.{None, Some}
 use Rattle.calls.specs.Calls.{Areas, Sent, Call, Outcome, call_of, unanswered}
 use Rattle.refusals.specs.Refusals.{early, count_rows, told_of}
 use Rattle.link.specs.declared.Answered.{Answered}

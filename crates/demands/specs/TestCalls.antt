@@ -1,5 +1,5 @@
 -- Demand 2 of test calls: "The maker says the ten bytes of 200H are arbitrary. [..] Demand 2 reads so from here." (02, c)
-use Rattle.std.specs.Prelude.{ℕ, ◌+◌, ◌<◌, ◌≡◌, Bool, true, List, ◌++◌, length}
+use Rattle.std.specs.Prelude.{ℕ, ◌+◌, ◌<◌, ◌≡◌, Bool, true, List, ◌++◌, length, None}
 use Rattle.digits.specs.Text.{text}
 use Rattle.frames.specs.Frame.{normal, message_in, reply_of}
 use Rattle.finder.specs.declared.Found.{Found}
@@ -7,7 +7,6 @@ use Rattle.finder.specs.declared.Found.TheVariants.{Frame}
 use Rattle.finder.specs.Find.{find_in, part_of}
 use Rattle.finder.specs.Laws.{Quiet, TestCallRule, FoundAsBefore}
 use Rattle.messages.specs.Rows.{first_of}
-use Rattle.std.specs.Prelude.{None}
 use Rattle.calls.specs.Calls.{Areas, Sent, Call, Outcome, call_of, lengths_of, unanswered}
 use Rattle.refusals.specs.Refusals.{area_rows}
 use Rattle.demands.specs.History.{Conduct, ours}

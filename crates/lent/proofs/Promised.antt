@@ -6,8 +6,7 @@ use lib.ListN.{length}
 use borrow.Author.Tests.{eq-eqb, ne_eqb, le-ltb}
 use Rattle.frames.specs.Frame.{content_in}
 use Rattle.kinds.specs.Kinds.{held_in}
-use Rattle.axes.specs.Records.{Axes}
-use Rattle.axes.specs.Records.{no_axes}
+use Rattle.axes.specs.Records.{Axes, no_axes}
 use Rattle.axes.specs.Run.{lent_axes}
 use Rattle.messages.specs.Rows.{first_of}
 use Rattle.table.specs.Table.{message_of}

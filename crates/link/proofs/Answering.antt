@@ -11,11 +11,9 @@ use Rattle.frames.specs.Frame.{content_in}
 use Rattle.kinds.specs.declared.Held.{Held}
 use Rattle.kinds.specs.Kinds.{held_in}
 use Rattle.table.specs.declared.Message.{Message}
-use Rattle.messages.specs.Asked.{Asked}
-use Rattle.messages.specs.Asked.{Refused, Order}
+use Rattle.messages.specs.Asked.{Asked, Refused, Order, asked_rows, asked_of, number_given}
 use Rattle.messages.specs.Rows.{first_of}
 use Rattle.table.specs.Table.{message_of}
-use Rattle.messages.specs.Asked.{asked_rows, asked_of, number_given}
 use Rattle.messages.proofs.Judged.{number_judged, refused_some}
 use Rattle.calls.specs.Calls.{Call, Outcome, lengths_of, unanswered}
 use Rattle.refusals.specs.Refusals.{silent, silent_of, told_of, refusal_of}

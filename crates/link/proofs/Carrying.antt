@@ -9,9 +9,8 @@ use borrow.Author.Tests.{ltb-false, eqb-true}
 use Rattle.digits.proofs.Bools.{was_not}
 use Rattle.frames.specs.Frame.{content_in}
 use Rattle.kinds.specs.Kinds.{Sound, kind_of, held_in, size_of}
-use Rattle.std.specs.Prelude.{Option}
+use Rattle.std.specs.Prelude.{Option, Some}
 use Rattle.table.specs.declared.Message.{Message}
-use Rattle.std.specs.Prelude.{Some}
 use Rattle.table.specs.Table.{message_of}
 use Rattle.messages.specs.Asked.{asked_of}
 use Rattle.messages.proofs.Judged.{told}

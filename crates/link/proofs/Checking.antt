@@ -11,15 +11,12 @@ use Rattle.digits.specs.Laid.{laid}
 use Rattle.digits.proofs.Laid.{laid_nothing}
 use Rattle.frames.specs.Frame.{error_of}
 use Rattle.kinds.specs.Kinds.{Sound}
-use Rattle.messages.specs.Asked.{Asked}
-use Rattle.messages.specs.Asked.{Refused, Order}
+use Rattle.messages.specs.Asked.{Asked, Refused, Order, number_given}
 use Rattle.messages.specs.Rows.{first_of}
-use Rattle.messages.specs.Asked.{number_given}
 use Rattle.messages.proofs.Judged.{refused_from}
 use Rattle.calls.specs.declared.Kept.{Kept}
-use Rattle.std.specs.Prelude.{Option}
+use Rattle.std.specs.Prelude.{Option, None}
 use Rattle.frames.specs.declared.checks.Sum.{Sum}
-use Rattle.std.specs.Prelude.{None}
 use Rattle.calls.specs.Calls.{Areas, Call, Outcome, call_of, lengths_of, unanswered}
 use Rattle.calls.proofs.Parts.{equal_parts}
 use Rattle.refusals.specs.Refusals.{too_short, late, silent_of, told_after, told_of, early, check_early, check_silent_of, check_told_of}

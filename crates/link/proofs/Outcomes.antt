@@ -16,9 +16,8 @@ use Rattle.kinds.specs.Kinds.{points_tag, columns_tag, integers_tag, flags_tag, 
 use Rattle.kinds.proofs.Known.{each_kind, kind_points, kind_columns, kind_integers, kind_flags, tag_of, few}
 use Rattle.journal.specs.Journal.{encodes, entries_in, added, area_of, puts, entry_for}
 use Rattle.points.specs.Point.{effective_in}
-use Rattle.messages.specs.Asked.{Asked}
+use Rattle.messages.specs.Asked.{Asked, number_given}
 use Rattle.messages.specs.Asked as asks
-use Rattle.messages.specs.Asked.{number_given}
 use Rattle.writes.specs.Writes.{Written}
 use Rattle.calls.specs.declared.Kept.{Kept}
 use Rattle.std.specs.Prelude.{Option}

@@ -4,9 +4,7 @@ use Rattle.frames.specs.Frame.{reply_of, error_of, normal}
 use Rattle.kinds.specs.declared.Held.{Held}
 use Rattle.kinds.specs.Kinds.{kind_of, held_in}
 use Rattle.table.specs.declared.Message.{Message}
-use Rattle.messages.specs.Asked.{Asked}
-use Rattle.messages.specs.Asked.{Refused, Order}
-use Rattle.messages.specs.Asked.{asked_of, number_given}
+use Rattle.messages.specs.Asked.{Asked, Refused, Order, asked_of, number_given}
 use Rattle.calls.specs.Calls.{Areas, Call, Outcome, lengths_of, area_in, written, unanswered}
 use Rattle.refusals.specs.Refusals.{silent_of, told_of}
 use Rattle.orders.specs.Orders.{rest, writes, new_bytes, said_by}

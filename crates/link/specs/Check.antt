@@ -1,11 +1,8 @@
 -- Document 02, request g, "Look before storing": "One call checks, answers what would be done or the refusal, and changes nothing; a second checks again
 -- by the same rules and does it."
-use Rattle.std.specs.Prelude.{ℕ, cond, List, [], eqb, ltb, length}
+use Rattle.std.specs.Prelude.{ℕ, cond, List, [], eqb, ltb, length, None, Option}
 use Rattle.frames.specs.Frame.{error_of}
-use Rattle.messages.specs.Asked.{Asked}
-use Rattle.messages.specs.Asked.{Refused, Order}
-use Rattle.messages.specs.Asked.{number_given, asked_by}
-use Rattle.std.specs.Prelude.{None, Option}
+use Rattle.messages.specs.Asked.{Asked, Refused, Order, number_given, asked_by}
 use Rattle.frames.specs.declared.checks.Sum.{Sum}
 use Rattle.calls.specs.Calls.{Call, Outcome, unanswered}
 use Rattle.refusals.specs.Refusals.{too_short, check_silent_of, check_told_of}

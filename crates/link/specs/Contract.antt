@@ -1,8 +1,7 @@
 -- The contract of each public call: one record of equations that determines every number, what is told of the sum, and every lent byte; a check, which
 -- leaves no byte, has one equation, with `check_of`.
-use Rattle.std.specs.Prelude.{ℕ, ◌≡◌, List, length}
+use Rattle.std.specs.Prelude.{ℕ, ◌≡◌, List, length, Option}
 use Rattle.digits.specs.Laid.{laid}
-use Rattle.std.specs.Prelude.{Option}
 use Rattle.frames.specs.declared.checks.Sum.{Sum}
 use Rattle.calls.specs.Calls.{Areas, Call, Outcome}
 use Rattle.link.specs.declared.Answered.{Answered}

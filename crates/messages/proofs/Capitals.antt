@@ -16,11 +16,9 @@ use Rattle.points.proofs.Capitals.{behind, same_fills}
 use Rattle.table.specs.declared.Follows.{Follows}
 use Rattle.table.specs.declared.Follows.TheVariants.{Nothing, TenBytes, AxisPattern, Points, RunBytes, ChangeType}
 use Rattle.table.specs.declared.Message.{Message}
-use Rattle.std.specs.Prelude.{Option}
-use Rattle.std.specs.Prelude.{Some, None}
+use Rattle.std.specs.Prelude.{Option, Some, None}
 use Rattle.table.specs.Table.{fields_of, start_in, count_in, rest_in, follows_right, any_bytes, have_points, have_type, pattern_fits, patterns_fit}
-use Rattle.messages.specs.Asked.{Refused, Order}
-use Rattle.messages.specs.Asked.{not_digits, wrong_length, wrong_program, count_zero, not_held, wrong_pattern, wrong_type, asked_rows, judged}
+use Rattle.messages.specs.Asked.{Refused, Order, not_digits, wrong_length, wrong_program, count_zero, not_held, wrong_pattern, wrong_type, asked_rows, judged}
 use Rattle.messages.proofs.Judged.{pick, picked, judged_known, Right, written}
 
 same_follows : (f : Follows) (unit count : ℕ) (s : List ℕ) → follows_right f unit count (capitals s) ≡ follows_right f unit count s

@@ -17,13 +17,10 @@ use Rattle.points.specs.Point.{fills_of}
 use Rattle.table.specs.declared.Follows.{Follows}
 use Rattle.table.specs.declared.Follows.TheVariants.{Nothing, TenBytes, AxisPattern, Points, RunBytes, ChangeType}
 use Rattle.table.specs.declared.Message.{Message}
-use Rattle.std.specs.Prelude.{Option}
-use Rattle.std.specs.Prelude.{Some, None}
-use Rattle.messages.specs.Asked.{Asked}
-use Rattle.messages.specs.Asked.{Refused, Order}
+use Rattle.std.specs.Prelude.{Option, Some, None}
+use Rattle.messages.specs.Asked.{Asked, Refused, Order, not_digits, wrong_length, wrong_program, count_zero, not_held, wrong_pattern, wrong_type, asked_rows, judged, asked_of, number_given}
 use Rattle.messages.specs.Rows.{first_of}
 use Rattle.table.specs.Table.{message_of, fields_of, program_in, start_in, count_in, rest_in, follows_right, any_bytes, have_points, have_type, patterns_fit}
-use Rattle.messages.specs.Asked.{not_digits, wrong_length, wrong_program, count_zero, not_held, wrong_pattern, wrong_type, asked_rows, judged, asked_of, number_given}
 
 abbrev pub pick : Bool → Bool → Bool → Bool → Bool → Bool → Bool → ℕ
 pick p q r s t u v = cond p 102 (cond q 103 (cond r 104 (cond s 105 (cond t 106 (cond u 107 (cond v 108 0))))))

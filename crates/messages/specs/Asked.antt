@@ -1,12 +1,10 @@
 -- Document 01, "Refusal numbers, in the order tested", 101 to 107, and document 02, requests a, 108, and l: what a message with its content asks.
-use Rattle.std.specs.Prelude.{ℕ, Bool, true, cond, not, ◌&&◌, List, [], ◌∷◌, leb, eqb, Result, Ok, Err}
+use Rattle.std.specs.Prelude.{ℕ, Bool, true, cond, not, ◌&&◌, List, [], ◌∷◌, leb, eqb, Result, Ok, Err, Option, Some, None}
 use Rattle.digits.specs.Digits.{admitted, number_of}
 use Rattle.frames.specs.Frame.{content_in}
 use Rattle.kinds.specs.declared.Held.{Held}
 use Rattle.kinds.specs.Kinds.{kind_of, holds}
 use Rattle.table.specs.declared.Message.{Message}
-use Rattle.std.specs.Prelude.{Option}
-use Rattle.std.specs.Prelude.{Some, None}
 use Rattle.messages.specs.declared.refusal.Refusal.{Refusal}
 use Rattle.messages.specs.declared.Request.{Request}
 use Rattle.messages.specs.Refusal.{refusal_number}

@@ -1,13 +1,11 @@
 -- What is promised of the judgement, over all frames. The proof is in proofs/Promised.antt.
-use Rattle.std.specs.Prelude.{ℕ, ◌≡◌, List}
+use Rattle.std.specs.Prelude.{ℕ, ◌≡◌, List, Some}
 use Rattle.frames.specs.Frame.{content_in}
 use Rattle.kinds.specs.declared.Held.{Held}
 use Rattle.table.specs.declared.Message.{Message}
-use Rattle.std.specs.Prelude.{Some}
 use Rattle.table.specs.Table.{message_of, start_in, count_in}
-use Rattle.messages.specs.Asked.{Refused, Order}
+use Rattle.messages.specs.Asked.{Refused, Order, asked_rows, asked_of, number_given}
 use Rattle.messages.specs.Rows.{first_of}
-use Rattle.messages.specs.Asked.{asked_rows, asked_of, number_given}
 
 -- "Refusal numbers, in the order tested": what a frame asks, its number and its order, is the table's and the frame's own
 pub record Judgement (held : Held) (fitted release : ℕ) (frame : List ℕ) : Type 0 where

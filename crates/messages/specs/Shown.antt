@@ -1,8 +1,7 @@
 -- Document 02, request g: what a panel is shown of a judgement, "what would be done or the refusal".
 use Rattle.std.specs.Prelude.{Bool, cond, leb}
 use Rattle.table.specs.declared.Message.{Message}
-use Rattle.messages.specs.Asked.{Asked}
-use Rattle.messages.specs.Asked.{Refused, Order}
+use Rattle.messages.specs.Asked.{Asked, Refused, Order}
 use Rattle.messages.specs.declared.Shown.{Shown}
 
 -- a message names a run where its content has digits for a start number ("Each message"; 02, a)

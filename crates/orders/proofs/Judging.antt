@@ -25,9 +25,8 @@ use Rattle.table.specs.declared.Follows.TheVariants.{RunBytes}
 use Rattle.table.specs.declared.Action.{Action}
 use Rattle.table.specs.declared.Action.TheVariants.{SayBack, CountPoints, ListPoints, ReadRun, AxisStatus, WritePoints, ClearRun, ChangeRun, ShowFlags, SetFlag}
 use Rattle.table.specs.declared.Message.{Message}
-use Rattle.messages.specs.Asked.{Order}
+use Rattle.messages.specs.Asked.{Order, asked_of}
 use Rattle.table.specs.Table.{message_of, fields_of, start_in, count_in, rest_in, follows_right, any_bytes, Narrow}
-use Rattle.messages.specs.Asked.{asked_of}
 use Rattle.messages.proofs.Judged.{told, written}
 use Rattle.messages.proofs.Shapes.{Shape, shaped}
 use Rattle.orders.specs.Orders.{writes, new_bytes}

@@ -26,8 +26,7 @@ use Rattle.slots.proofs.Counted.{effective_most}
 use Rattle.table.specs.declared.Action.{Action}
 use Rattle.table.specs.declared.Action.TheVariants.{SayBack, CountPoints, ListPoints, ReadRun, AxisStatus, WritePoints, ClearRun, ChangeRun, ShowFlags, SetFlag}
 use Rattle.table.specs.declared.Message.{Message}
-use Rattle.std.specs.Prelude.{Option}
-use Rattle.std.specs.Prelude.{Some, None}
+use Rattle.std.specs.Prelude.{Option, Some, None}
 use Rattle.table.specs.Table.{messages, named_in, message_numbered, message_of}
 use Rattle.messages.proofs.Shapes.{Each}
 use Rattle.refusals.specs.Refusals.{points_fit, variables_fit, least_journal, journal_fits, records_fit, count_true, count_fits, miscounted}

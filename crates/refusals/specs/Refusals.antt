@@ -1,6 +1,6 @@
 -- Document 01, "Refusal numbers, in the order tested", and document 02, requests a, b, c, f, g and l: 1 to 13 here, 101 to 108 by
 -- `asked_rows` of messages. Nothing else decides a number; the 1 of an act (`act_of` of link) is row 1's, by `too_short`.
-use Rattle.std.specs.Prelude.{ℕ, ◌+◌, ◌*◌, ◌/◌, ◌%◌, Bool, true, false, cond, not, ◌&&◌, ◌||◌, List, [], ◌∷◌, ◌++◌, ltb, leb, eqb, length, take}
+use Rattle.std.specs.Prelude.{ℕ, ◌+◌, ◌*◌, ◌/◌, ◌%◌, Bool, true, false, cond, not, ◌&&◌, ◌||◌, List, [], ◌∷◌, ◌++◌, ltb, leb, eqb, length, take, Option, Some, None}
 use Rattle.frames.specs.Frame.{content_in, shaped, sum_said, is_off, is_wrong, station_passes}
 use Rattle.kinds.specs.declared.Held.{Held}
 use Rattle.kinds.specs.Kinds.{held_in}
@@ -11,16 +11,12 @@ use Rattle.axes.specs.Records.{Axes}
 use Rattle.messages.specs.Rows.{Row, ◌when◌, first_of}
 use Rattle.table.specs.declared.Action.{Action}
 use Rattle.table.specs.declared.Action.TheVariants.{SayBack, CountPoints, ListPoints, ReadRun, AxisStatus, WritePoints, ClearRun, ChangeRun, ShowFlags, SetFlag}
-use Rattle.std.specs.Prelude.{Option}
 use Rattle.table.specs.declared.Message.{Message}
-use Rattle.std.specs.Prelude.{Some, None}
 use Rattle.table.specs.Table.{message_of}
 use Rattle.messages.specs.Asked.{asked_rows}
 use Rattle.calls.specs.declared.Settings.{Settings}
 use Rattle.calls.specs.declared.Kept.{Kept}
-use Rattle.std.specs.Prelude.{Option}
 use Rattle.frames.specs.declared.checks.Sum.{Sum}
-use Rattle.std.specs.Prelude.{None, Some}
 use Rattle.kinds.specs.declared.Lengths.{Lengths}
 use Rattle.kinds.specs.declared.Firsts.{Firsts}
 use Rattle.calls.specs.Calls.{Areas, Call, lengths_of}

@@ -1,6 +1,6 @@
 -- Document 01, "What the board answers" and "Each message", and document 02, requests a and l; source document 000, sections 4-3-2 to 4-3-30: which frames
 -- are commands, and the fields of each.
-use Rattle.std.specs.Prelude.{ℕ, zero, suc, ◌+◌, ◌*◌, ◌≤◌, Bool, true, false, cond, not, ◌&&◌, List, [], ◌∷◌, leb, eqb, length, take, drop}
+use Rattle.std.specs.Prelude.{ℕ, zero, suc, ◌+◌, ◌*◌, ◌≤◌, Bool, true, false, cond, not, ◌&&◌, List, [], ◌∷◌, leb, eqb, length, take, drop, Option, Some, None}
 use Rattle.std.specs.Int.Bits.{bit_and}
 use Rattle.digits.specs.Digits.{admitted, number_of}
 use Rattle.frames.specs.Frame.{message_in}
@@ -12,8 +12,6 @@ use Rattle.table.specs.declared.Follows.TheVariants.{Nothing, TenBytes, AxisPatt
 use Rattle.table.specs.declared.Action.{Action}
 use Rattle.table.specs.declared.Action.TheVariants.{SayBack, CountPoints, ListPoints, ReadRun, AxisStatus, WritePoints, ClearRun, ChangeRun, ShowFlags, SetFlag}
 use Rattle.table.specs.declared.Message.{Message}
-use Rattle.std.specs.Prelude.{Option}
-use Rattle.std.specs.Prelude.{Some, None}
 
 -- a row: ID; how many digits program number, start number and count have, 0 where it has none; the tag of the kind that it asks of, 0 where it asks of none; what follows
 -- these fields; what it has the board do; whether the reply repeats the fields

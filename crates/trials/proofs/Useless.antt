@@ -22,8 +22,7 @@ use Rattle.pairs.specs.Pairs.{digits_in}
 use Rattle.journal.specs.Journal.{encodes, added}
 use Rattle.points.specs.Point.{effective_in}
 use Rattle.table.specs.declared.Message.{Message}
-use Rattle.std.specs.Prelude.{Option}
-use Rattle.std.specs.Prelude.{Some}
+use Rattle.std.specs.Prelude.{Option, Some}
 use Rattle.messages.specs.Asked.{Asked}
 use Rattle.table.specs.Table.{message_numbered, message_of}
 use Rattle.calls.specs.declared.Kept.{Kept}

@@ -1,13 +1,11 @@
 -- Demand 3 worked through: a history of a small board, and boards that break the demand. Each is ruled out by a history.
-use Rattle.std.specs.Prelude.{ℕ, ◌≡◌, cond, ◌&&◌, List, [], ◌∷◌, eqb, length, take, get_or, replicate}
+use Rattle.std.specs.Prelude.{ℕ, ◌≡◌, cond, ◌&&◌, List, [], ◌∷◌, eqb, length, take, get_or, replicate, None}
 use Prim.Native.String.{String}
 use Rattle.digits.specs.Text.{text}
 use Rattle.kinds.specs.Kinds.{points_tag, columns_tag, held_in}
 use Rattle.journal.specs.Journal.{added, entry_for}
-use Rattle.std.specs.Prelude.{None}
 use Rattle.calls.specs.Calls.{Areas, Sent, Call, Outcome, fresh, lengths_of, put_in, old_entry, with_entries, unanswered}
-use Rattle.messages.specs.Asked.{Asked}
-use Rattle.messages.specs.Asked.{Refused, Order}
+use Rattle.messages.specs.Asked.{Asked, Refused, Order}
 use Rattle.orders.specs.Orders.{writes}
 use Rattle.link.specs.Answer.{held, asked, answer_of}
 use Rattle.back.specs.Back.{back_of}

@@ -14,9 +14,8 @@ use Rattle.axes.specs.Records.{zero_record, eight_axes}
 use Rattle.table.specs.declared.Follows.TheVariants.{Nothing as NoMore}
 use Rattle.table.specs.declared.Action.TheVariants.{ListPoints}
 use Rattle.table.specs.declared.Message.{Message}
-use Rattle.messages.specs.Asked.{Refused, Order}
+use Rattle.messages.specs.Asked.{Refused, Order, asked_of}
 use Rattle.table.specs.Table.{row}
-use Rattle.messages.specs.Asked.{asked_of}
 use Rattle.calls.specs.Calls.{Areas, Sent, Call, fresh, lengths_of, put_in}
 use Rattle.link.specs.Answer.{answer_of}
 

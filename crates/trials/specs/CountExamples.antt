@@ -1,6 +1,6 @@
 -- A count that is kept, worked through by computing (02, b): what is handed on, what 208H replies, refusal 11 in its place; and boards that break a
 -- statement each.
-use Rattle.std.specs.Prelude.{ℕ, ◌+◌, ◌-◌, ◌≡◌, Bool, cond, not, ◌&&◌, List, [], ◌∷◌, ◌++◌, eqb, leb, replicate}
+use Rattle.std.specs.Prelude.{ℕ, ◌+◌, ◌-◌, ◌≡◌, Bool, cond, not, ◌&&◌, List, [], ◌∷◌, ◌++◌, eqb, leb, replicate, Option, Some, None}
 use Prim.Native.String.{String}
 use Rattle.digits.specs.Digits.{digits_of}
 use Rattle.digits.specs.Text.{text}
@@ -8,11 +8,8 @@ use Rattle.frames.specs.Frame.{normal, reply_of}
 use Rattle.frames.specs.declared.checks.Sum.TheVariants.{True}
 use Rattle.kinds.specs.Kinds.{points_tag}
 use Rattle.journal.specs.Journal.{last_entry, entry_for}
-use Rattle.std.specs.Prelude.{Option}
 use Rattle.table.specs.declared.Message.{Message}
-use Rattle.std.specs.Prelude.{Some, None}
 use Rattle.messages.specs.Asked.{Refused}
-use Rattle.std.specs.Prelude.{None, Some}
 use Rattle.calls.specs.Calls.{Areas, Sent, Call, Outcome, put_in, unanswered}
 use Rattle.link.specs.Answer.{held, answer_of}
 use Rattle.link.specs.Check.{check_of, act_of}

@@ -1,6 +1,6 @@
 -- Looking before storing worked through by computing (02, g): what a check shows of each message and of refused frames, what acting then does, and boards
 -- that break a statement each.
-use Rattle.std.specs.Prelude.{ℕ, zero, suc, ◌≡◌, Bool, false, cond, ◌&&◌, List, [], ◌∷◌, ◌++◌, eqb, length, replicate}
+use Rattle.std.specs.Prelude.{ℕ, zero, suc, ◌≡◌, Bool, false, cond, ◌&&◌, List, [], ◌∷◌, ◌++◌, eqb, length, replicate, Option, Some, None}
 use Prim.Native.String.{String}
 use Rattle.digits.specs.Text.{text}
 use Rattle.digits.specs.Laid.{laid}
@@ -8,13 +8,9 @@ use Rattle.frames.specs.declared.checks.Sum.TheVariants.{True, SwitchedOff, Wron
 use Rattle.frames.specs.Frame.{content_in}
 use Rattle.kinds.specs.Kinds.{columns_tag}
 use Rattle.journal.specs.Journal.{entry_for}
-use Rattle.std.specs.Prelude.{Option}
 use Rattle.table.specs.declared.Message.{Message}
-use Rattle.std.specs.Prelude.{Some, None}
 use Rattle.messages.specs.Asked.{not_held, number_given}
-use Rattle.std.specs.Prelude.{Option}
 use Rattle.frames.specs.declared.checks.Sum.{Sum}
-use Rattle.std.specs.Prelude.{None, Some}
 use Rattle.calls.specs.Calls.{Call, Outcome, fresh, put_in, with_entries, entries_of, sum_code, unanswered}
 use Rattle.refusals.specs.Refusals.{too_short}
 use Rattle.link.specs.Answer.{held, asked, text_of, areas_after, answer_of}

@@ -1,13 +1,12 @@
 -- What the sum catches of changed bytes, and what it does not, worked through by computing (02, n): what meets the premises of demand 2's statements,
 -- and boards that break these.
-use Rattle.std.specs.Prelude.{ℕ, zero, suc, ◌+◌, ◌%◌, ◌<◌, ◌≡◌, ◌⊎◌, Bool, cond, ◌&&◌, List, [], ◌∷◌, map, eqb, length, take, drop, get_or, set}
+use Rattle.std.specs.Prelude.{ℕ, zero, suc, ◌+◌, ◌%◌, ◌<◌, ◌≡◌, ◌⊎◌, Bool, cond, ◌&&◌, List, [], ◌∷◌, map, eqb, length, take, drop, get_or, set, None, Some}
 use Prim.Native.String.{String}
 use Rattle.digits.specs.Digits.{capitals, admitted, number_of}
 use Rattle.digits.specs.Text.{text}
 use Rattle.frames.specs.declared.checks.Sum.{Sum}
 use Rattle.frames.specs.declared.checks.Sum.TheVariants.{True, SwitchedOff, Wrong}
 use Rattle.frames.specs.Frame.{beforeSC, sc_in, sc_of, low_byte, sum_true, closed}
-use Rattle.std.specs.Prelude.{None, Some}
 use Rattle.calls.specs.Calls.{Call, unanswered}
 use Rattle.link.specs.Answer.{answer_of}
 use Rattle.demands.specs.History.{Conduct}

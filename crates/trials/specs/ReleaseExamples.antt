@@ -1,17 +1,15 @@
 -- Cabinet releases worked through by computing (02, l): the boundary between them, what meets the premises of demand 2's statements, and boards that
 -- break these.
-use Rattle.std.specs.Prelude.{ℕ, ◌+◌, ◌≡◌, true, cond, not, ◌&&◌, ◌⊎◌, [], ◌++◌, map, eqb, drop, replicate}
+use Rattle.std.specs.Prelude.{ℕ, ◌+◌, ◌≡◌, true, cond, not, ◌&&◌, ◌⊎◌, [], ◌++◌, map, eqb, drop, replicate, Some}
 use Prim.Native.String.{String}
 use Rattle.digits.specs.Digits.{within, admitted, capital, capitals}
 use Rattle.digits.specs.Text.{text}
 use Rattle.frames.specs.Frame.{normal, station_in, message_in, has_testID, sum_true, sum_off, reply_of}
 use Rattle.frames.specs.declared.checks.Sum.TheVariants.{Wrong}
-use Rattle.std.specs.Prelude.{Some}
 use Rattle.calls.specs.Calls.{Areas, Sent, Call, Outcome, area_in, unanswered}
 use Rattle.axes.specs.Records.{no_axes}
 use Rattle.orders.specs.Orders.{said_by}
-use Rattle.messages.specs.Asked.{Asked}
-use Rattle.messages.specs.Asked.{Refused, Order}
+use Rattle.messages.specs.Asked.{Asked, Refused, Order}
 use Rattle.link.specs.Answer.{held, asked, answer_of}
 use Rattle.back.specs.Back.{back_of}
 use Rattle.demands.specs.History.{Conduct}

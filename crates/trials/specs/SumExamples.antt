@@ -1,15 +1,13 @@
 -- The sum's three answers worked through by computing (02, f): what is told where the frame is accepted, where an earlier and where a later test
 -- refuses it, what meets the premises of demand 2's statements, and boards that break these.
-use Rattle.std.specs.Prelude.{ℕ, ◌≡◌, Bool, true, false, cond, not, ◌&&◌, List, [], ◌∷◌, eqb, get_or, replicate}
+use Rattle.std.specs.Prelude.{ℕ, ◌≡◌, Bool, true, false, cond, not, ◌&&◌, List, [], ◌∷◌, eqb, get_or, replicate, Option, None, Some}
 use Prim.Native.String.{String}
 use Rattle.digits.specs.Text.{text}
 use Rattle.frames.specs.declared.checks.Sum.TheVariants.{True, SwitchedOff, Wrong}
 use Rattle.frames.specs.Frame.{sc_in, sum_off, sum_said, station_passes}
 use Rattle.axes.specs.Records.{no_axes}
 use Rattle.messages.specs.Asked.{number_given}
-use Rattle.std.specs.Prelude.{Option}
 use Rattle.frames.specs.declared.checks.Sum.{Sum}
-use Rattle.std.specs.Prelude.{None, Some}
 use Rattle.calls.specs.Calls.{Sent, Call, Outcome, call_of, fresh, unanswered}
 use Rattle.link.specs.Answer.{asked, text_of, areas_after, answer_of}
 use Rattle.back.specs.Back.{back_of}

@@ -8,8 +8,7 @@ use Rattle.frames.specs.Frame.{normal, reply_of}
 use Rattle.kinds.specs.Kinds.{kind_of, run_of}
 use Rattle.journal.specs.Journal.{encodes, added, entry_for}
 use Rattle.table.specs.declared.Message.{Message}
-use Rattle.messages.specs.Asked.{Asked}
-use Rattle.messages.specs.Asked.{Refused, Order}
+use Rattle.messages.specs.Asked.{Asked, Refused, Order}
 use Rattle.calls.specs.declared.Kept.{Kept}
 use Rattle.calls.specs.Calls.{Areas, Sent, Call, Outcome, areas_of, area_in, put_in, unanswered}
 use Rattle.link.specs.declared.Answered.{Answered}
