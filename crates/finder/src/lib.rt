@@ -100,10 +100,13 @@ fn is_skipped(bytes: &[u8]) -> bool
 fn near(s: &[u8], b: u8) -> usize
     ensures { result ≡ place_of b s.now }
 {
-    let n = s.len().min(NEAR);
-    match by_byte(&s[..n], b) {
+    if s.len() < NEAR {
+        return place(s, b);
+    }
+    // so many bytes that the compiler knows the number, and writes the look out for each
+    match by_byte(&s[..NEAR], b) {
         Some(i) => i,
-        None => n + place(&s[n..], b),
+        None => NEAR + place(&s[NEAR..], b),
     }
 }
 

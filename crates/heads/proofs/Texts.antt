@@ -5,7 +5,8 @@ use mathlib.Core.Bool.{true, false}
 use mathlib.Core.List.{List, ◌++◌, append_assoc}
 use native.Mathlib.Omega.{arith}
 use native.Mathlib.Nat.{add-sub_cancel_left}
-use lib.ListN.{length, take, drop, length-append}
+use lib.ListN.{length, take, drop, length-append, length-drop}
+use lib.Seq.{length-take-le}
 use Rattle.digits.specs.Digits.{digits_of}
 use Rattle.digits.specs.Laid.{laid}
 use Rattle.digits.proofs.Laid.{laid_on}
@@ -73,17 +74,25 @@ unfolding run_of
 lent k start count at area e = rw (e, add-sub_cancel_left (place_of k start) (count * k.unit))
 
 -- 210H, 20EH and 20DH: the head, then what is shown of the run's bytes
-module _ (m : Message) (k : Kind) (start count end : ℕ) (area run : List ℕ) (ends : end ≡ 3 + length (head_of m start count)) (is : run ≡ run_of k start count area) where
-  pub run_laid : (shows : List ℕ → List ℕ) (d r1 r2 : List ℕ) → 3 ≤ length d → r1 ≡ laid d 3 (head_of m start count) → r2 ≡ laid r1 end (shows run)
-      → r2 ≡ laid d 3 (head_of m start count ++ shows (run_of k start count area))
-  run_laid shows d r1 r2 h e f = f ∙ rw (e, is) (laid_on d (head_of m start count) (shows (run_of k start count area)) 3 end (sym ends) h)
+pub run_laid : (m : Message) (k : Kind) (start count end : ℕ) (area run : List ℕ) → end ≡ 3 + length (head_of m start count) → run ≡ run_of k start count area
+    → (shows : List ℕ → List ℕ) (d r1 r2 : List ℕ) → 3 ≤ length d → r1 ≡ laid d 3 (head_of m start count) → r2 ≡ laid r1 end (shows run)
+    → r2 ≡ laid d 3 (head_of m start count ++ shows (run_of k start count area))
+run_laid m k start count end area run ends is shows d r1 r2 h e f =
+    f ∙ rw (e, is) (laid_on d (head_of m start count) (shows (run_of k start count area)) 3 end (sym ends) h)
 
-  pub length_run : length (run_text m k start count area) ≡ end - 3 + 2 * length run
+-- and how long such a text is
+module _ (m : Message) (k : Kind) (start count end at many : ℕ) (area : List ℕ) (ends : end ≡ 3 + length (head_of m start count)) (where-is : at ≡ place_of k start)
+    (run : many ≡ count * k.unit) (h : place_of k start + count * k.unit ≤ length area) where
+  run_long : length (run_of k start count area) ≡ many
+  unfolding run_of
+  run_long = length-take-le (count * k.unit) (drop (place_of k start) area) (simp length-drop (omega arith)) ∙ sym run
+
+  pub length_run : length (run_text m k start count area) ≡ end - 3 + 2 * many
   length_run =
       let r = run_of k start count area in
-      omega (arith, length-append (head_of m start count) (digits_in r), length_digits_in r, ap length is)
+      omega (arith, length-append (head_of m start count) (digits_in r), length_digits_in r, run_long)
 
-  pub length_flags : length (flags_text m k start count area) ≡ end - 3 + 2 * ((length run + 7) / 8)
+  pub length_flags : length (flags_text m k start count area) ≡ end - 3 + 2 * ((many + 7) / 8)
   length_flags =
       let r = run_of k start count area in
-      omega (arith, length-append (head_of m start count) (digits_in (eights 0 r)), length_digits_in (eights 0 r), (shown r).as_many, ap length is)
+      omega (arith, length-append (head_of m start count) (digits_in (eights 0 r)), length_digits_in (eights 0 r), (shown r).as_many, run_long)
