@@ -11,7 +11,7 @@ use Rattle.calls.specs.Calls.{Areas, Call, Outcome, sum_code}
 use Rattle.messages.specs.declared.Shown.{Shown}
 use Rattle.messages.specs.Shown.{shown_of}
 use Rattle.link.specs.declared.Answered.{Answered}
-use Rattle.back.specs.declared.Back.{Back}
+use Rattle.back.specs.Back.{Back}
 use Rattle.link.specs.Answer.{answer_of}
 use Rattle.link.specs.Check.{check_of, act_of}
 use Rattle.link.specs.Contract.{Gives}

@@ -10,7 +10,7 @@ ghost use Rattle.board.specs.Calls.{Receives, settings_of, kept_of, firsts_of, C
 
 use axes::read_axes;
 use back::step_back;
-use calls::{Kept, Settings, sum_code};
+use calls::{Areas, Kept, Settings, sum_code};
 use finder::{Found, find, frame_in};
 use kinds::Firsts;
 use link::{act, check};
@@ -254,9 +254,18 @@ pub fn cabinet_step_back(
         integer: first_integer,
         flag: first_flag,
     };
-    let back = step_back(points, columns, integers, flags, journal, kept, firsts);
-    let left = back.kept;
+    let mut areas = Areas {
+        points,
+        columns,
+        integers,
+        flags,
+        journal,
+        kept,
+        firsts,
+    };
+    let number = step_back(&mut areas);
+    let left = areas.kept;
     *used = left.used;
     *effective = left.effective;
-    back.number
+    number
 }

@@ -3,7 +3,7 @@ use Prim.Native.Nat.{ℕ}
 use mathlib.Core.Path.{◌≡◌, sym, ap, ◌∙◌}
 use mathlib.Core.List.{List}
 use Rattle.link.specs.declared.Answered.{Answered}
-use Rattle.back.specs.declared.Back.{Back}
+use Rattle.back.specs.Back.{Back}
 use Rattle.calls.specs.Calls.{Call}
 use Rattle.board.specs.Calls.{kept_of, answered_of, backed_of}
 use Rattle.demands.specs.Sole.{OneAnswer, OneCheck, OneStepBack, OneFound, OneReceive, OneCabinetAnswer, OneCabinetCheck, OneCabinetBack}

@@ -8,7 +8,7 @@ use Rattle.messages.specs.Shown.{shown_of}
 use Rattle.calls.specs.Calls.{Areas, Call, Outcome}
 use Rattle.link.specs.declared.Answered.{Answered}
 use Rattle.link.specs.declared.Checked.{Checked}
-use Rattle.back.specs.declared.Back.{Back}
+use Rattle.back.specs.Back.{Back}
 use Rattle.link.specs.Check.{check_of}
 use Rattle.link.specs.Contract.{Gives}
 use Rattle.back.specs.Back.{StepsBack}
