@@ -5,7 +5,7 @@ ghost use Rattle.std.specs.Prelude.{OnErr, ◌≡◌, ◌≤◌, ◌<◌, length
 
 use axes::{Axes, read_axes};
 use back::step_back;
-use calls::{Areas, Kept, Settings, sum_code};
+use calls::{Areas, AreasRead, Kept, Settings, sum_code};
 use finder::{Found, find, frame_in};
 use kinds::Firsts;
 use lent::answer_lent;
@@ -108,7 +108,7 @@ fn digest(area: &[u8]) -> u32 {
     })
 }
 
-fn say_areas(rt: &impl Print, areas: &Areas<'_, '_>) -> io::Result<()> {
+fn say_areas(rt: &impl Print, areas: AreasRead<'_>) -> io::Result<()> {
     let points = digest(areas.points);
     let columns = digest(areas.columns);
     let integers = digest(areas.integers);
@@ -180,37 +180,36 @@ fn answer_to(
 
 // 'C': a check, on what is lent.
 fn play_check(rt: &impl Print, frame: &[u8], memory: &Memory, board: Board) -> io::Result<()> {
-    let points = part(&memory.points, board.points);
-    let columns = part(&memory.columns, board.columns);
-    let integers = part(&memory.integers, board.integers);
-    let flags = part(&memory.flags, board.flags);
-    let journal = part(&memory.journal, board.journal);
-    let axes = read_axes(part(&memory.axes, board.axes));
+    let areas = AreasRead {
+        points: part(&memory.points, board.points),
+        columns: part(&memory.columns, board.columns),
+        integers: part(&memory.integers, board.integers),
+        flags: part(&memory.flags, board.flags),
+        journal: part(&memory.journal, board.journal),
+        kept: board.kept,
+        firsts: board.firsts,
+    };
     let checked = check(
         frame,
-        points,
-        columns,
-        integers,
-        flags,
-        journal,
-        board.kept,
-        board.firsts,
-        axes,
+        areas.points,
+        areas.columns,
+        areas.integers,
+        areas.flags,
+        areas.journal,
+        areas.kept,
+        areas.firsts,
+        read_axes(part(&memory.axes, board.axes)),
         board.settings,
     );
+    let sum = sum_code(checked.sum);
     let shown = show(checked.asked);
+    let number = shown.number;
     print!(rt;
-        "C {} {} {} {}",
-        shown.number, shown.message, shown.start, shown.count
+        "C {number} {} {} {} {sum}",
+        shown.message, shown.start, shown.count
     )?;
-    print!(rt; " {}", sum_code(checked.sum))?;
-    print!(rt;
-        " {:08X} {:08X} {:08X}",
-        digest(points),
-        digest(columns),
-        digest(integers)
-    )?;
-    println!(rt; " {:08X} {:08X}", digest(flags), digest(journal))
+    say_areas(rt, areas)?;
+    println!(rt; "")
 }
 
 // What an answer or an act says, and leaves in the areas.
@@ -228,7 +227,7 @@ fn say_answered(
         "{letter} {number} {length} {} {} {sum}",
         areas.kept.used, areas.kept.effective
     )?;
-    say_areas(rt, areas)?;
+    say_areas(rt, areas.read())?;
     println!(rt; " {:08X}", digest(reply))
 }
 
@@ -236,7 +235,7 @@ fn say_answered(
 fn play_back(rt: &impl Print, areas: &mut Areas<'_, '_>) -> io::Result<()> {
     let number = step_back(areas);
     print!(rt; "S {number} {} {}", areas.kept.used, areas.kept.effective)?;
-    say_areas(rt, areas)?;
+    say_areas(rt, areas.read())?;
     println!(rt; "")
 }
 
