@@ -30,18 +30,11 @@ fn serve(rt: &impl Print, frame: &[u8], areas: &mut Areas<'_, '_>) -> io::Result
     let mut reply = [0; 1024];
     let answered = answer(
         frame,
-        areas.points,
-        areas.columns,
-        areas.integers,
-        areas.flags,
-        areas.journal,
-        areas.kept,
-        areas.firsts,
+        areas,
         read_axes(&[0; 72]),
         SETTINGS,
         &mut reply,
     );
-    areas.kept = answered.kept;
     if let Some(text) = reply.get(..answered.length) {
         rt.write_all(text)?;
     }

@@ -10,7 +10,7 @@ ghost use Rattle.board.specs.Calls.{Receives, settings_of, kept_of, firsts_of, C
 
 use axes::read_axes;
 use back::step_back;
-use calls::{Areas, Kept, Settings, sum_code};
+use calls::{Areas, AreasRead, Kept, Settings, sum_code};
 use finder::{Found, find, frame_in};
 use kinds::Firsts;
 use link::{act, check};
@@ -94,15 +94,18 @@ pub fn cabinet_check(
         integer: first_integer,
         flag: first_flag,
     };
-    let checked = check(
-        frame,
+    let areas = AreasRead {
         points,
         columns,
         integers,
         flags,
         journal,
-        Kept { used, effective },
+        kept: Kept { used, effective },
         firsts,
+    };
+    let checked = check(
+        frame,
+        areas,
         read_axes(axes),
         settings_by(fitted, station, release, unchecked),
     );
@@ -154,8 +157,7 @@ pub fn cabinet_act(
         integer: first_integer,
         flag: first_flag,
     };
-    let answered = act(
-        frame,
+    let mut areas = Areas {
         points,
         columns,
         integers,
@@ -163,10 +165,8 @@ pub fn cabinet_act(
         journal,
         kept,
         firsts,
-        read_axes(axes),
-        settings,
-        reply,
-    );
+    };
+    let answered = act(frame, &mut areas, read_axes(axes), settings, reply);
     let after = answered.kept;
     let told = answered.sum;
     *used = after.used;

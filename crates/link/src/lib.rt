@@ -3,14 +3,15 @@
 
 ghost use Rattle.std.specs.Prelude.{◌≡◌, [], ◌≤◌, length};
 ghost use Rattle.digits.specs.Laid.{laid};
-ghost use Rattle.calls.specs.Calls.{areas_of, call_of};
+ghost use Rattle.calls.specs.Calls.{call_of};
+ghost use Rattle.calls.specs.Lent.{areas_in, areas_read, SameLent};
 ghost use Rattle.link.specs.Check.{check_of, refused_text};
 ghost use Rattle.link.specs.Contract.{Heard, accepted, Answers, Acts, Performs};
 
 use axes::Axes;
-use calls::{Kept, Settings, Told};
+use calls::{Areas, AreasRead, Kept, Settings, Told};
 use frames::replies::error_reply;
-use kinds::{Firsts, Kind, Lengths, held_in};
+use kinds::{Kind, held_in};
 use messages::{Asked, judge};
 use orders::{Done, Order, carry_out};
 use refusals::silent;
@@ -66,62 +67,75 @@ fn refuse(reply: &mut [u8], station: u8, number: u16, kept: Kept, sum: Told) -> 
 fn perform(
     order: Order,
     frame: &[u8],
-    points: &mut [u8],
-    columns: &mut [u8],
-    integers: &mut [u8],
-    flags: &mut [u8],
-    journal: &mut [u8],
-    kept: Kept,
-    firsts: Firsts,
+    areas: &mut Areas<'_, '_>,
     axes: Axes,
     settings: Settings,
     reply: &mut [u8],
 ) -> Done
-    requires { Heard (call_of frame.now axes settings reply.old (areas_of points.old columns.old integers.old flags.old journal.old kept firsts)) order }
-    ensures { Performs
-        (call_of frame.now axes settings reply.old
-        (areas_of points.old columns.old integers.old flags.old journal.old kept firsts))
-        result (areas_of points.new columns.new integers.new flags.new journal.new result.kept firsts) reply.new }
+    requires { Heard (call_of frame.now axes settings reply.old (areas_in areas.old)) order }
+    ensures performs { Performs (call_of frame.now axes settings reply.old (areas_in areas.old)) result
+        (record (areas_in areas.new) { kept = result.kept }) reply.new }
+    ensures same_lent { SameLent areas.new areas.old }
 {
-    let m = order.message;
-    let tag = m.tag;
-    if tag == Kind::POINTS {
-        return carry_out(order, frame, points, journal, kept, axes, settings, reply);
+    let kept = areas.kept;
+    match order.message.tag {
+        Kind::POINTS => carry_out(
+            order,
+            frame,
+            areas.points,
+            areas.journal,
+            kept,
+            axes,
+            settings,
+            reply,
+        ),
+        Kind::COLUMNS => carry_out(
+            order,
+            frame,
+            areas.columns,
+            areas.journal,
+            kept,
+            axes,
+            settings,
+            reply,
+        ),
+        Kind::INTEGERS => carry_out(
+            order,
+            frame,
+            areas.integers,
+            areas.journal,
+            kept,
+            axes,
+            settings,
+            reply,
+        ),
+        _ => carry_out(
+            order,
+            frame,
+            areas.flags,
+            areas.journal,
+            kept,
+            axes,
+            settings,
+            reply,
+        ),
     }
-    if tag == Kind::COLUMNS {
-        return carry_out(order, frame, columns, journal, kept, axes, settings, reply);
-    }
-    if tag == Kind::INTEGERS {
-        return carry_out(order, frame, integers, journal, kept, axes, settings, reply);
-    }
-    carry_out(order, frame, flags, journal, kept, axes, settings, reply)
 }
 
 // The first half of an answer: the refusal, never 1, or what would be done. Everything is only read, and there is no reply area.
-pub fn check(
-    frame: &[u8],
-    points: &[u8],
-    columns: &[u8],
-    integers: &[u8],
-    flags: &[u8],
-    journal: &[u8],
-    kept: Kept,
-    firsts: Firsts,
-    axes: Axes,
-    settings: Settings,
-) -> Checked
-    ensures { result ≡ check_of
-        (call_of frame.now axes settings []
-        (areas_of points.now columns.now integers.now flags.now journal.now kept firsts)) }
+pub fn check(frame: &[u8], areas: AreasRead<'_>, axes: Axes, settings: Settings) -> Checked
+    ensures { result ≡ check_of (call_of frame.now axes settings [] (areas_read areas.entry)) }
 {
-    let lengths = Lengths {
-        points: points.len(),
-        columns: columns.len(),
-        integers: integers.len(),
-        flags: flags.len(),
-        firsts,
-    };
-    let hearing = silent(frame, axes, settings, lengths, points, journal, kept);
+    let lengths = areas.lengths();
+    let hearing = silent(
+        frame,
+        axes,
+        settings,
+        lengths,
+        areas.points,
+        areas.journal,
+        areas.kept,
+    );
     let number = hearing.number;
     let sum = hearing.sum;
     if number != 0 {
@@ -130,9 +144,8 @@ pub fn check(
             sum,
         };
     }
-    let held = held_in(lengths);
     Checked {
-        asked: judge(frame, held, settings.fitted, settings.release),
+        asked: judge(frame, held_in(lengths), settings.fitted, settings.release),
         sum,
     }
 }
@@ -141,22 +154,15 @@ pub fn check(
 #[tactic(auto, using(crate::proofs::Checking::acted_short))]
 pub fn act(
     frame: &[u8],
-    points: &mut [u8],
-    columns: &mut [u8],
-    integers: &mut [u8],
-    flags: &mut [u8],
-    journal: &mut [u8],
-    kept: Kept,
-    firsts: Firsts,
+    areas: &mut Areas<'_, '_>,
     axes: Axes,
     settings: Settings,
     reply: &mut [u8],
 ) -> Answered
-    ensures { Acts
-        (call_of frame.now axes settings reply.old
-        (areas_of points.old columns.old integers.old flags.old journal.old kept firsts))
-        result (areas_of points.new columns.new integers.new flags.new journal.new result.kept firsts) reply.new }
+    ensures acts { Acts (call_of frame.now axes settings reply.old (areas_in areas.old)) result (areas_in areas.new) reply.new }
+    ensures same_lent { SameLent areas.new areas.old }
 {
+    let kept = areas.kept;
     if reply.len() < 1024 {
         return Answered {
             number: 1,
@@ -165,9 +171,7 @@ pub fn act(
             sum: Told::Untested,
         };
     }
-    let checked = check(
-        frame, points, columns, integers, flags, journal, kept, firsts, axes, settings,
-    );
+    let checked = check(frame, areas.read(), axes, settings);
     let asked = checked.asked;
     let sum = checked.sum;
     match asked {
@@ -181,18 +185,10 @@ pub fn act(
                 message,
                 start,
                 count,
-                held: held_in(Lengths {
-                    points: points.len(),
-                    columns: columns.len(),
-                    integers: integers.len(),
-                    flags: flags.len(),
-                    firsts,
-                }),
+                held: held_in(areas.read().lengths()),
             };
-            let done = perform(
-                order, frame, points, columns, integers, flags, journal, kept, firsts, axes,
-                settings, reply,
-            );
+            let done = perform(order, frame, areas, axes, settings, reply);
+            areas.kept = done.kept;
             accept(done, sum)
         }
     }
@@ -201,23 +197,13 @@ pub fn act(
 // The answer to a frame, check and act in one: any bytes, any areas, any lengths.
 pub fn answer(
     frame: &[u8],
-    points: &mut [u8],
-    columns: &mut [u8],
-    integers: &mut [u8],
-    flags: &mut [u8],
-    journal: &mut [u8],
-    kept: Kept,
-    firsts: Firsts,
+    areas: &mut Areas<'_, '_>,
     axes: Axes,
     settings: Settings,
     reply: &mut [u8],
 ) -> Answered
-    ensures { Answers
-        (call_of frame.now axes settings reply.old
-        (areas_of points.old columns.old integers.old flags.old journal.old kept firsts))
-        result (areas_of points.new columns.new integers.new flags.new journal.new result.kept firsts) reply.new }
+    ensures answers { Answers (call_of frame.now axes settings reply.old (areas_in areas.old)) result (areas_in areas.new) reply.new }
+    ensures same_lent { SameLent areas.new areas.old }
 {
-    act(
-        frame, points, columns, integers, flags, journal, kept, firsts, axes, settings, reply,
-    )
+    act(frame, areas, axes, settings, reply)
 }

@@ -117,29 +117,6 @@ fn say_areas(rt: &impl Print, areas: AreasRead<'_>) -> io::Result<()> {
     print!(rt; " {points:08X} {columns:08X} {integers:08X} {flags:08X} {journal:08X}")
 }
 
-// A frame acted on.
-fn act_on(
-    frame: &[u8],
-    areas: &mut Areas<'_, '_>,
-    axes: Axes,
-    settings: Settings,
-    reply: &mut [u8],
-) -> Answered {
-    act(
-        frame,
-        areas.points,
-        areas.columns,
-        areas.integers,
-        areas.flags,
-        areas.journal,
-        areas.kept,
-        areas.firsts,
-        axes,
-        settings,
-        reply,
-    )
-}
-
 // A frame answered; the records go as a lent run where there are eight of them.
 fn answer_to(
     frame: &[u8],
@@ -149,33 +126,9 @@ fn answer_to(
     reply: &mut [u8],
 ) -> Answered {
     if axes.eight {
-        return answer_lent(
-            frame,
-            areas.points,
-            areas.columns,
-            areas.integers,
-            areas.flags,
-            areas.journal,
-            areas.kept,
-            areas.firsts,
-            &axes.records,
-            settings,
-            reply,
-        );
+        return answer_lent(frame, areas, &axes.records, settings, reply);
     }
-    answer(
-        frame,
-        areas.points,
-        areas.columns,
-        areas.integers,
-        areas.flags,
-        areas.journal,
-        areas.kept,
-        areas.firsts,
-        axes,
-        settings,
-        reply,
-    )
+    answer(frame, areas, axes, settings, reply)
 }
 
 // 'C': a check, on what is lent.
@@ -191,13 +144,7 @@ fn play_check(rt: &impl Print, frame: &[u8], memory: &Memory, board: Board) -> i
     };
     let checked = check(
         frame,
-        areas.points,
-        areas.columns,
-        areas.integers,
-        areas.flags,
-        areas.journal,
-        areas.kept,
-        areas.firsts,
+        areas,
         read_axes(part(&memory.axes, board.axes)),
         board.settings,
     );
@@ -261,13 +208,11 @@ fn play_on(
     match byte_at(operation, 0) {
         b'S' => play_back(rt, &mut areas)?,
         b'A' => {
-            let answered = act_on(frame, &mut areas, axes, board.settings, reply);
-            areas.kept = answered.kept;
+            let answered = act(frame, &mut areas, axes, board.settings, reply);
             say_answered(rt, 'A', answered, &areas, reply)?;
         }
         _ => {
             let answered = answer_to(frame, &mut areas, axes, board.settings, reply);
-            areas.kept = answered.kept;
             say_answered(rt, 'F', answered, &areas, reply)?;
         }
     }
