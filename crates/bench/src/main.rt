@@ -28,13 +28,7 @@ const FIRSTS: Firsts = Firsts {
 // One frame answered, with axis records of zeros.
 fn serve(rt: &impl Print, frame: &[u8], areas: &mut Areas<'_, '_>) -> io::Result<()> {
     let mut reply = [0; 1024];
-    let answered = answer(
-        frame,
-        areas,
-        read_axes(&[0; 72]),
-        SETTINGS,
-        &mut reply,
-    );
+    let answered = answer(frame, areas, read_axes(&[0; 72]), SETTINGS, &mut reply);
     if let Some(text) = reply.get(..answered.length) {
         rt.write_all(text)?;
     }
