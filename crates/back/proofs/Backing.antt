@@ -8,7 +8,9 @@ use lib.Dec.{eqb}
 use lib.ListN.{length, take, drop, replicate}
 use borrow.Author.Tests.{ne_eqb, eqb-true}
 use Rattle.kinds.specs.declared.Kind.{Kind}
+use Rattle.kinds.specs.declared.Firsts.{Firsts}
 use Rattle.kinds.specs.declared.Held.{Held}
+use Rattle.kinds.specs.declared.Lengths.{Lengths}
 use Rattle.kinds.specs.Kinds.{points_tag, Sound, points_of, columns_of, integers_of, flags_of, kind_of, held_in, size_of}
 use Rattle.kinds.proofs.Known.{tag_of, sized}
 use Rattle.points.specs.Point.{effective_in}
@@ -19,12 +21,12 @@ use Rattle.journal.proofs.Codec.{Bytes}
 use Rattle.journal.proofs.Back.{holds_back}
 use Rattle.messages.specs.Rows.{first_of}
 use Rattle.std.specs.Prelude.{None}
-use Rattle.calls.specs.Calls.{Areas, Outcome, areas_of, lengths_of, unanswered, stepped_back}
+use Rattle.calls.specs.declared.Kept.{Kept}
+use Rattle.calls.specs.Calls.{Areas, Outcome, put_in, lengths_of, unanswered, stepped_back}
 use Rattle.refusals.specs.Refusals.{count_true, back_rows, back_refusal_of}
 use Rattle.refusals.proofs.Rows.{areas_pass, back_rows_lem}
 use Rattle.refusals.proofs.Tested.{Points, Variables, Journal, points_fit_lem, variables_fit_lem, journal_fits_lem, sound}
-use Rattle.back.specs.declared.Back.{Back}
-use Rattle.back.specs.Back.{back_of, StepsBack}
+use Rattle.back.specs.Back.{backed, back_of, StepsBack}
 use Rattle.calls.proofs.Parts.{equal_parts}
 
 -- the step back's outcome
@@ -39,6 +41,11 @@ accepted_back a e = rw e
 pub back_first : (a : Areas) → back_refusal_of a ≡ first_of (back_rows (lengths_of a) a.points a.journal a.kept)
 unfolding back_refusal_of
 back_first a = refl
+
+-- the number, as the code has it of the areas that it reads
+pub refused_as : {a : Areas} {l : Lengths} {n : ℕ} (b : Areas) → n ≡ first_of (back_rows l b.points b.journal b.kept) → l ≡ lengths_of b → b ≡ a
+    → n ≡ back_refusal_of a
+refused_as b e l f = e ∙ ap (λ (x : Lengths). first_of (back_rows x b.points b.journal b.kept)) l ∙ sym (back_first b) ∙ ap back_refusal_of f
 
 -- the step back's tests, passed
 pub record CanStepBack (a : Areas) : Type 0 where
@@ -94,7 +101,7 @@ pub same_puts : {k k' : Kind} {e e' : Entry} {after : List ℕ} (area : List ℕ
 same_puts area p k e = cc
 
 -- the count that is handed on, of what is held as it was worked out and of the entry as it was found
-same_count : {n : ℕ} {h h' : Held} {x x' : Entry} {points' : List ℕ} (points : List ℕ) (effective : ℕ)
+pub same_count : {n : ℕ} {h h' : Held} {x x' : Entry} {points' : List ℕ} (points : List ℕ) (effective : ℕ)
     → n ≡ cond (eqb x.tag points_tag) (effective_in h.points points') effective → points' ≡ puts (points_of h) x points → h ≡ h' → x ≡ x'
     → n ≡ cond (eqb x'.tag points_tag) (effective_in h'.points (puts (points_of h') x' points)) effective
 same_count points effective v p e f = v ∙ rw (p, e, f)
@@ -123,23 +130,25 @@ module _ (a : Areas) (z : back_refusal_of a ≡ 0) {h : Held} (e : h ≡ held_in
     entry_is : entry_for l.tag l.start old ≡ last_entry (entries_in (held_in (lengths_of a)) 0 (take a.kept.used a.journal))
     entry_is = s.entry ∙ ap (λ (x : Held). last_entry (entries_in x 0 (take a.kept.used a.journal))) e
 
-    pub stepped : (bytes : Bytes a.journal) (r : Back) (points' columns' integers' flags' journal' : List ℕ) → r.number ≡ 0 → r.kept.used ≡ l.at
-        → r.kept.effective ≡ cond (eqb l.tag points_tag) (effective_in h.points points') a.kept.effective
-        → (points' ≡ puts (points_of h) (entry_for l.tag l.start old) a.points)
-        × (columns' ≡ puts columns_of (entry_for l.tag l.start old) a.columns)
-        × (integers' ≡ puts (integers_of h) (entry_for l.tag l.start old) a.integers)
-        × (flags' ≡ puts (flags_of h) (entry_for l.tag l.start old) a.flags)
+    -- the other areas as they are once it is put back, and the journal without it
+    pub stepped : (bytes : Bytes a.journal) {put : Areas} (journal' : List ℕ) {taken : List ℕ}
+        → put ≡ put_in h (entry_for l.tag l.start old) (record a { journal = taken })
         → journal' ≡ take l.at a.journal ++ replicate (length a.journal - l.at) 0
-        → StepsBack a r (areas_of points' columns' integers' flags' journal' r.kept a.firsts)
-    stepped bytes r points' columns' integers' flags' journal' n u v p j =
+        → let kept : Kept = record { used = l.at; effective = put.kept.effective } in
+        StepsBack a (backed 0 kept) (record put { journal = journal'; kept = kept })
+    stepped bytes {put} journal' p j =
         let q = accepted_back a z in
         let w = holds_back h a.journal a.kept.used l bytes ok.journal.within find_needs.1 s journal' j in
+        let among = λ (x : Held). entries_in x 0 (take a.kept.used a.journal) in
+        let points = ap (λ (x : Areas). x.points) p in
+        let kept_now : Kept = record { used = l.at; effective = put.kept.effective } in
         let same =
-        equal_parts (same_puts a.points p.0 (ap points_of e) entry_is) (same_puts a.columns p.1 refl entry_is)
-        (same_puts a.integers p.2 (ap integers_of e) entry_is)
-        (same_puts a.flags p.3 (ap flags_of e) entry_is)
-        (w.bytes ∙ ap (λ (x : Held). area_of (length a.journal) (others (entries_in x 0 (take a.kept.used a.journal)))) e)
-        (u ∙ w.used ∙ ap (λ (x : Held). length (encodes (others (entries_in x 0 (take a.kept.used a.journal))))) e)
-        (same_count a.points a.kept.effective v p.0 e entry_is)
+        ap (λ (f : Firsts). record put { journal = journal'; kept = kept_now; firsts = f }) (ap (λ (x : Areas). x.firsts) p)
+        ∙ equal_parts (same_puts a.points points (ap points_of e) entry_is) (same_puts a.columns (ap (λ (x : Areas). x.columns) p) refl entry_is)
+        (same_puts a.integers (ap (λ (x : Areas). x.integers) p) (ap integers_of e) entry_is)
+        (same_puts a.flags (ap (λ (x : Areas). x.flags) p) (ap flags_of e) entry_is)
+        (w.bytes ∙ ap (λ (x : Held). area_of (length a.journal) (others (among x))) e)
+        (w.used ∙ ap (λ (x : Held). length (encodes (others (among x)))) e)
+        (same_count a.points a.kept.effective (ap (λ (x : Areas). x.kept.effective) p) refl e entry_is)
         ∙ sym (ap (λ (o : Outcome). o.areas) q) in
-        record { number_is = n ∙ sym (ap (λ (o : Outcome). o.number) q); kept_is = ap (λ (x : Areas). x.kept) same; areas_are = same }
+        record { number_is = sym (ap (λ (o : Outcome). o.number) q); kept_is = ap (λ (x : Areas). x.kept) same; areas_are = same }

@@ -1,210 +1,116 @@
 // The bench program (document 01): frames from standard input, replies to standard output.
 #![tactic(auto)]
 
-ghost use Rattle.std.specs.Prelude.{OnErr, ◌≡◌, ◌+◌, ◌≤◌, length, IfOk};
-ghost use Rattle.bench.specs.Turns.{Less};
+ghost use Rattle.std.specs.Prelude.{OnErr, ◌≡◌, ◌+◌, ◌≤◌, length, IfOk, IfSome};
 
-use areas::runs::move_run;
 use axes::read_axes;
-use calls::{Kept, Settings};
+use calls::{Areas, Kept, Settings};
 use finder::{Found, find, frame_in};
 use kinds::Firsts;
 use link::answer;
 use std::io;
 use std::io::Read;
 
-// What a turn leaves: so many bytes received and what is kept, or the end of the input.
-#[derive(Clone, Copy)]
-pub enum Turn {
-    On { have: usize, kept: Kept },
-    End,
-}
+// Station 99H, release 1, '@@' allowed, all eight axes.
+const SETTINGS: Settings = Settings {
+    station: 0x99,
+    release: 1,
+    unchecked: true,
+    fitted: 0xFF,
+};
 
-fn say(rt: &impl Print, reply: &[u8], length: usize) -> io::Result<()> {
-    if length <= reply.len() {
-        rt.write_all(&reply[..length])?;
+// Integers from 200 and flags from 600 on.
+const FIRSTS: Firsts = Firsts {
+    integer: 200,
+    flag: 600,
+};
+
+// One frame answered, with axis records of zeros.
+fn serve(rt: &impl Print, frame: &[u8], areas: &mut Areas<'_, '_>) -> io::Result<()> {
+    let mut reply = [0; 1024];
+    let answered = answer(frame, areas, read_axes(&[0; 72]), SETTINGS, &mut reply);
+    if let Some(text) = reply.get(..answered.length) {
+        rt.write_all(text)?;
     }
     Ok(())
 }
 
-// One frame answered, with station 99H, release 1, '@@' allowed, all eight axes and zero records, integers from 200 and flags from 600 on; what is
-// kept.
-fn serve(
-    rt: &impl Print,
-    frame: &[u8],
-    points: &mut [u8],
-    columns: &mut [u8],
-    integers: &mut [u8],
-    flags: &mut [u8],
-    journal: &mut [u8],
-    kept: Kept,
-) -> io::Result<Kept> {
-    let mut reply = [0u8; 1024];
-    let zeros = [0u8; 72];
-    let settings = Settings {
-        station: 0x99,
-        release: 1,
-        unchecked: true,
-        fitted: 0xFF,
-    };
-    let firsts = Firsts {
-        integer: 200,
-        flag: 600,
-    };
-    let answered = answer(
-        frame,
-        points,
-        columns,
-        integers,
-        flags,
-        journal,
-        kept,
-        firsts,
-        read_axes(&zeros),
-        settings,
-        &mut reply,
-    );
-    say(rt, &reply, answered.length)?;
-    Ok(answered.kept)
-}
-
-// One read after the `have` bytes at the start, and how many bytes came: 0 at the end of the input.
-fn fill(input: &mut impl Read, line: &mut [u8], have: usize) -> io::Result<usize>
-    requires { have ≤ length line.old }
-    ensures ok { IfOk result (λ n. have + n ≤ length line.new) }
-    ensures err { OnErr result (length line.new ≡ length line.old) }
-{
-    input.read(&mut line[have..])
-}
-
-// What was dropped goes, and more is read. A line of 2,048 bytes has room after "wait".
+// What was dropped goes, and more is read: how many bytes are there then, none at the end of the input. A line of 2,048 bytes has room after "wait".
 fn pull(
     input: &mut impl Read,
     line: &mut [u8],
     drop: usize,
     have: usize,
-    kept: Kept,
-) -> io::Result<Turn>
+) -> io::Result<Option<usize>>
     requires { (drop ≤ have) × (have ≤ length line.old) }
-    ensures ok { IfOk result (λ turn. Less turn (length line.old)) }
+    ensures ok { IfOk result (λ left. IfSome left (λ n. n ≤ length line.old)) }
     ensures err { OnErr result (length line.new ≡ length line.old) }
 {
     let left = have - drop;
-    move_run(&mut *line, drop, left);
-    if left == line.len() {
-        return Ok(Turn::End);
-    }
-    let n = fill(input, &mut *line, left)?;
+    line.copy_within(drop..have, 0);
+    let n = input.read(&mut line[left..])?;
     if n == 0 {
-        return Ok(Turn::End);
+        return Ok(None);
     }
-    Ok(Turn::On {
-        have: left + n,
-        kept,
-    })
+    Ok(Some(left + n))
 }
 
-// One frame answered, or more read.
+// One frame answered, or more read: how many bytes are left, none at the end of the input.
 fn go_on(
     rt: &impl Print,
     input: &mut impl Read,
     line: &mut [u8],
     have: usize,
-    points: &mut [u8],
-    columns: &mut [u8],
-    integers: &mut [u8],
-    flags: &mut [u8],
-    journal: &mut [u8],
-    kept: Kept,
-) -> io::Result<Turn>
+    areas: &mut Areas<'_, '_>,
+) -> io::Result<Option<usize>>
     requires { have ≤ length line.old }
-    ensures ok { IfOk result (λ turn. Less turn (length line.old)) }
+    ensures ok { IfOk result (λ left. IfSome left (λ n. n ≤ length line.old)) }
     ensures err { OnErr result (length line.new ≡ length line.old) }
 {
     let found = find(&line[..have]);
     match found {
-        Found::Frame {
-            start: _,
-            used: end,
-        } => {
-            let frame = frame_in(&line[..have], found);
-            let left = serve(rt, frame, points, columns, integers, flags, journal, kept)?;
-            move_run(&mut *line, end, have - end);
-            Ok(Turn::On {
-                have: have - end,
-                kept: left,
-            })
+        Found::Frame { used, .. } => {
+            serve(rt, frame_in(&line[..have], found), areas)?;
+            line.copy_within(used..have, 0);
+            Ok(Some(have - used))
         }
         Found::TooLong { drop } => {
-            move_run(&mut *line, drop, have - drop);
-            Ok(Turn::On {
-                have: have - drop,
-                kept,
-            })
+            line.copy_within(drop..have, 0);
+            Ok(Some(have - drop))
         }
-        Found::Nothing { drop } => pull(input, &mut *line, drop, have, kept),
-        Found::Wait { drop } => pull(input, &mut *line, drop, have, kept),
+        Found::Nothing { drop } | Found::Wait { drop } => pull(input, line, drop, have),
     }
 }
 
+// Frame after frame to the end of the input; no input has as many turns as are counted here.
 fn all(
     rt: &impl Print,
     input: &mut impl Read,
     line: &mut [u8],
-    points: &mut [u8],
-    columns: &mut [u8],
-    integers: &mut [u8],
-    flags: &mut [u8],
-    journal: &mut [u8],
+    areas: &mut Areas<'_, '_>,
 ) -> io::Result<()> {
-    let mut turns = u64::MAX;
-    let mut have: usize = 0;
-    let mut kept = Kept {
-        used: 0,
-        effective: 0,
-    };
-    while turns > 0 {
-        match go_on(
-            rt,
-            &mut *input,
-            &mut *line,
-            have,
-            &mut *points,
-            &mut *columns,
-            &mut *integers,
-            &mut *flags,
-            &mut *journal,
-            kept,
-        )? {
-            Turn::On { have: h, kept: k } => {
-                have = h;
-                kept = k;
-            }
-            Turn::End => {
-                return Ok(());
-            }
-        }
-        turns -= 1;
+    let mut have = 0;
+    for _ in 0..u64::MAX {
+        let Some(left) = go_on(rt, input, line, have, areas)? else {
+            return Ok(());
+        };
+        have = left;
     }
     Ok(())
 }
 
 fn main(rt: HostRuntime) -> io::Result<()> {
-    let mut input = rt.stdin();
-    let mut line = [0u8; 2048];
-    let mut points = [0u8; 20000];
-    let mut columns = [0u8; 700];
-    let mut integers = [0u8; 400];
-    let mut flags = [0u8; 300];
-    let mut journal = [0u8; 32768];
-    all(
-        &rt,
-        &mut input,
-        &mut line,
-        &mut points,
-        &mut columns,
-        &mut integers,
-        &mut flags,
-        &mut journal,
-    )
+    let mut areas = Areas {
+        points: &mut [0; 20000],
+        columns: &mut [0; 700],
+        integers: &mut [0; 400],
+        flags: &mut [0; 300],
+        journal: &mut [0; 32768],
+        kept: Kept {
+            used: 0,
+            effective: 0,
+        },
+        firsts: FIRSTS,
+    };
+    all(&rt, &mut rt.stdin(), &mut [0; 2048], &mut areas)
 }

@@ -3,12 +3,11 @@ use Prim.Native.Nat.{ℕ}
 use mathlib.Core.Path.{◌≡◌, refl, ap, ◌∙◌}
 use mathlib.Core.List.{List}
 use Rattle.calls.specs.Calls.{Areas, Call, Outcome, sum_code}
-use Rattle.link.specs.declared.Answered.{Answered}
-use Rattle.link.specs.Contract.{Gives}
+use Rattle.link.specs.Contract.{GivenBack, Gives}
 use Rattle.link.proofs.Checking.{same_gives}
 use Rattle.board.specs.Calls.{CabinetGives}
 
-pub coded : {f : Call → Outcome} {c : Call} {r : Answered} {areas' : Areas} {reply' : List ℕ} {code : ℕ} → code ≡ sum_code r.sum → Gives f c r areas' reply'
+pub coded : {f : Call → Outcome} {c : Call} {r : GivenBack} {areas' : Areas} {reply' : List ℕ} {code : ℕ} → code ≡ sum_code r.sum → Gives f c r areas' reply'
     → CabinetGives f c r.number r.length r.kept.used r.kept.effective code areas' reply'
 coded e a =
     record {

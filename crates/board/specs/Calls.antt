@@ -10,11 +10,10 @@ use Rattle.frames.specs.declared.checks.Sum.{Sum}
 use Rattle.calls.specs.Calls.{Areas, Call, Outcome, sum_code}
 use Rattle.messages.specs.declared.Shown.{Shown}
 use Rattle.messages.specs.Shown.{shown_of}
-use Rattle.link.specs.declared.Answered.{Answered}
-use Rattle.back.specs.declared.Back.{Back}
+use Rattle.back.specs.Back.{Back}
 use Rattle.link.specs.Answer.{answer_of}
 use Rattle.link.specs.Check.{check_of, act_of}
-use Rattle.link.specs.Contract.{Gives}
+use Rattle.link.specs.Contract.{GivenBack, Gives}
 
 -- document 01, "Finding a frame in the received bytes": 0 a frame, 1 nothing, 2 wait, 3 too long
 abbrev pub code_of : Found → ℕ
@@ -55,7 +54,7 @@ kept_of used effective = record { used = used; effective = effective }
 abbrev pub firsts_of : ℕ → ℕ → Firsts
 firsts_of integer flag = record { integer = integer; flag = flag }
 
-abbrev pub answered_of : ℕ → ℕ → Kept → Option Sum → Answered
+abbrev pub answered_of : ℕ → ℕ → Kept → Option Sum → GivenBack
 answered_of number length kept told = record { number = number; length = length; kept = kept; sum = told }
 
 -- what `cabinet_answer` and `cabinet_act` give of a call: its outcome, with the code of what it tells

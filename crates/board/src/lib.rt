@@ -10,10 +10,11 @@ ghost use Rattle.board.specs.Calls.{Receives, settings_of, kept_of, firsts_of, C
 
 use axes::read_axes;
 use back::step_back;
-use calls::{Kept, Settings, sum_code};
+use calls::{Areas, AreasRead, Kept, Settings, sum_code};
 use finder::{Found, find, frame_in};
 use kinds::Firsts;
 use link::{act, check};
+use messages::refusal::number_of;
 use messages::show;
 
 // 0 a frame, 1 nothing, 2 wait, 3 too long.
@@ -94,15 +95,18 @@ pub fn cabinet_check(
         integer: first_integer,
         flag: first_flag,
     };
-    let checked = check(
-        frame,
+    let areas = AreasRead {
         points,
         columns,
         integers,
         flags,
         journal,
-        Kept { used, effective },
+        kept: Kept { used, effective },
         firsts,
+    };
+    let checked = check(
+        frame,
+        areas,
         read_axes(axes),
         settings_by(fitted, station, release, unchecked),
     );
@@ -154,8 +158,7 @@ pub fn cabinet_act(
         integer: first_integer,
         flag: first_flag,
     };
-    let answered = act(
-        frame,
+    let mut areas = Areas {
         points,
         columns,
         integers,
@@ -163,17 +166,15 @@ pub fn cabinet_act(
         journal,
         kept,
         firsts,
-        read_axes(axes),
-        settings,
-        reply,
-    );
+    };
+    let answered = act(frame, &mut areas, read_axes(axes), settings, reply);
     let after = answered.kept;
     let told = answered.sum;
     *used = after.used;
     *effective = after.effective;
     *length = answered.length;
     *sum = sum_code(told);
-    answered.number
+    number_of(answered.outcome)
 }
 
 // The refusal number, 0 where accepted: check and act in one.
@@ -254,9 +255,18 @@ pub fn cabinet_step_back(
         integer: first_integer,
         flag: first_flag,
     };
-    let back = step_back(points, columns, integers, flags, journal, kept, firsts);
-    let left = back.kept;
+    let mut areas = Areas {
+        points,
+        columns,
+        integers,
+        flags,
+        journal,
+        kept,
+        firsts,
+    };
+    let stepped = step_back(&mut areas);
+    let left = areas.kept;
     *used = left.used;
     *effective = left.effective;
-    back.number
+    number_of(stepped)
 }

@@ -3,9 +3,11 @@
 #![tactic(auto)]
 
 ghost use Rattle.std.specs.Prelude.{◌≡◌};
-ghost use Rattle.calls.specs.Calls.{sum_code};
+ghost use Rattle.calls.specs.Calls.{sum_code, lengths_of};
+ghost use Rattle.calls.specs.Lent.{areas_in, areas_read};
 
 use frames::checks::Sum;
+use kinds::{Firsts, Lengths};
 
 // A frame's settings, the cabinet release (document 02, l) and whether '@@' is allowed (f) among them; the first numbers of variables, which a step back
 // needs too, are kinds::Firsts.
@@ -22,6 +24,61 @@ pub struct Settings {
 pub struct Kept {
     pub used: usize,
     pub effective: usize,
+}
+
+// The five areas that a host lends, of any lengths, with the numbers that are kept beside them and the first numbers of variables. The journal has a
+// lifetime of its own: a step back takes it out while its last entry goes back into the others.
+#[derive(Drop)]
+pub struct Areas<'a, 'j> {
+    pub points: &'a mut [u8],
+    pub columns: &'a mut [u8],
+    pub integers: &'a mut [u8],
+    pub flags: &'a mut [u8],
+    pub journal: &'j mut [u8],
+    pub kept: Kept,
+    pub firsts: Firsts,
+}
+
+// The same areas where they are only read.
+#[derive(Clone, Copy)]
+pub struct AreasRead<'a> {
+    pub points: &'a [u8],
+    pub columns: &'a [u8],
+    pub integers: &'a [u8],
+    pub flags: &'a [u8],
+    pub journal: &'a [u8],
+    pub kept: Kept,
+    pub firsts: Firsts,
+}
+
+impl<'a, 'j> Areas<'a, 'j> {
+    pub fn read(&self) -> AreasRead<'_>
+        ensures { areas_read result ≡ areas_in self.now }
+    {
+        AreasRead {
+            points: self.points,
+            columns: self.columns,
+            integers: self.integers,
+            flags: self.flags,
+            journal: self.journal,
+            kept: self.kept,
+            firsts: self.firsts,
+        }
+    }
+}
+
+impl<'a> AreasRead<'a> {
+    pub fn lengths(&self) -> Lengths
+        ensures { result ≡ lengths_of (areas_read self.now) }
+    {
+        Lengths {
+            points: self.points.len(),
+            columns: self.columns.len(),
+            integers: self.integers.len(),
+            flags: self.flags.len(),
+            firsts: self.firsts,
+        }
+    }
 }
 
 // The code of what is told of the sum: 0 none, since an earlier refusal left the frame untested; 1 true, 2 switched off, 3 wrong.

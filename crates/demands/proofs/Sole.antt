@@ -2,14 +2,14 @@
 use Prim.Native.Nat.{ℕ}
 use mathlib.Core.Path.{◌≡◌, sym, ap, ◌∙◌}
 use mathlib.Core.List.{List}
-use Rattle.messages.proofs.Numbered.{same_asked_by}
-use Rattle.link.specs.declared.Answered.{Answered}
+use Rattle.link.specs.Contract.{GivenBack}
+use Rattle.messages.proofs.Numbered.{same_asked_by, same_number}
 use Rattle.link.specs.declared.Checked.{Checked}
 use Rattle.link.specs.Check.{Looked, checked_by}
-use Rattle.back.specs.declared.Back.{Back}
+use Rattle.back.specs.Back.{Back}
 use Rattle.calls.specs.Calls.{Call}
 use Rattle.board.specs.Calls.{kept_of, answered_of, backed_of}
-use Rattle.demands.specs.Sole.{OneAnswer, OneCheck, OneStepBack, OneFound, OneReceive, OneCabinetAnswer, OneCabinetCheck, OneCabinetBack}
+use Rattle.demands.specs.Sole.{OneAnswer, OneAnswered, OneStepped, OneCheck, OneStepBack, OneFound, OneReceive, OneCabinetAnswer, OneCabinetCheck, OneCabinetBack}
 
 pub one_answer : OneAnswer
 one_answer outcomeOf c r r' a a' reply reply' x y =
@@ -19,6 +19,14 @@ one_answer outcomeOf c r r' a a' reply reply' x y =
     let h : r.kept ≡ r'.kept = x.kept_is ∙ sym y.kept_is in
     let s : r.sum ≡ r'.sum = x.sum_is ∙ sym y.sum_is in
     (λ i. record { number = n i; length = l i; kept = h i; sum = s i }, q, x.reply_is ∙ sym y.reply_is)
+
+pub one_answered : OneAnswered
+one_answered r r' e =
+    let o = same_number r.outcome r'.outcome (ap (λ (x : GivenBack). x.number) e) in
+    λ i. record { outcome = o i; length = (e i).length; kept = (e i).kept; sum = (e i).sum }
+
+pub one_stepped : OneStepped
+one_stepped = same_number
 
 same_checked : {r r' : Checked} → checked_by r ≡ checked_by r' → r ≡ r'
 same_checked {r} {r'} e =
@@ -46,10 +54,10 @@ pub one_cabinet_answer : OneCabinetAnswer
 one_cabinet_answer outcomeOf c n n' l l' u u' v v' s s' a a' reply reply' x y =
     let t = (outcomeOf c).sum in
     let h = one_answer outcomeOf c (answered_of n l (kept_of u v) t) (answered_of n' l' (kept_of u' v') t) a a' reply reply' x.gives y.gives in (
-      ap (λ (r : Answered). r.number) h.0,
-      ap (λ (r : Answered). r.length) h.0,
-      ap (λ (r : Answered). r.kept.used) h.0,
-      ap (λ (r : Answered). r.kept.effective) h.0,
+      ap (λ (r : GivenBack). r.number) h.0,
+      ap (λ (r : GivenBack). r.length) h.0,
+      ap (λ (r : GivenBack). r.kept.used) h.0,
+      ap (λ (r : GivenBack). r.kept.effective) h.0,
       x.sum_is ∙ sym y.sum_is,
       h.1,
       h.2,

@@ -9,10 +9,9 @@ use Rattle.frames.specs.declared.checks.Sum.{Sum}
 use Rattle.calls.specs.Calls.{Areas, Call, Outcome, call_of, area_in, written}
 use Rattle.refusals.specs.Refusals.{too_short}
 use Rattle.orders.specs.Orders.{rest, writes, new_bytes}
-use Rattle.link.specs.declared.Answered.{Answered}
 use Rattle.link.specs.Answer.{held, answer_of}
 use Rattle.link.specs.Check.{check_of, act_of}
-use Rattle.link.specs.Contract.{Answers, Acts}
+use Rattle.link.specs.Contract.{GivenBack, Answers, Acts}
 use Rattle.board.specs.Calls.{shown, CabinetAnswers, CabinetActs, CabinetChecks}
 use Rattle.demands.specs.History.{message_by}
 use Rattle.demands.specs.Reading.{start_of, count_of}
@@ -101,7 +100,7 @@ pub record LookFirst (board : Panel) : Type 0 where
 -- so for the contracts of `act` and `answer`: every number and every lent byte is the same, whichever of the two is called
 abbrev pub ContractsAsOne : Type 0
 ContractsAsOne =
-    (c : Call) (r r' : Answered) (a a' : Areas) (reply reply' : List ℕ)
+    (c : Call) (r r' : GivenBack) (a a' : Areas) (reply reply' : List ℕ)
     → Acts c r a reply → Answers c r' a' reply' → (r ≡ r') × (a ≡ a') × (reply ≡ reply')
 
 -- and for the C calls

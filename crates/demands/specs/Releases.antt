@@ -4,8 +4,7 @@ use Rattle.digits.specs.Digits.{capitals, digits_of}
 use Rattle.digits.specs.Text.{text}
 use Rattle.frames.specs.Frame.{command, station_in, message_in, content_in, sc_in, sc_of}
 use Rattle.calls.specs.Calls.{Areas, Sent, Call, call_of}
-use Rattle.link.specs.declared.Answered.{Answered}
-use Rattle.link.specs.Contract.{Answers}
+use Rattle.link.specs.Contract.{GivenBack, Answers}
 use Rattle.demands.specs.History.{Conduct}
 use Rattle.demands.specs.Reading.{frame_with, asking}
 use Rattle.demands.specs.TestCalls.{handed}
@@ -66,5 +65,5 @@ pub record Releases (board : Conduct) : Type 0 where
 -- so for the contract of `answer`: every number, what is told of the sum, and every lent byte
 abbrev pub SameAnswer : Type 0
 SameAnswer =
-    (c : Call) (r r' : Answered) (a a' : Areas) (reply reply' : List ℕ) → Answers (under 1 c) r a reply → Answers (under 2 c) r' a' reply'
+    (c : Call) (r r' : GivenBack) (a a' : Areas) (reply reply' : List ℕ) → Answers (under 1 c) r a reply → Answers (under 2 c) r' a' reply'
     → r.number ≡ 0 → (r' ≡ r) × (a' ≡ a) × (reply' ≡ reply)

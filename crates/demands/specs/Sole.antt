@@ -1,24 +1,33 @@
 -- Document 01, "What the promises say": "Show that two results which satisfy it are equal." Each public call's contract, in turn.
-use Rattle.std.specs.Prelude.{ℕ, ◌≡◌, List}
+use Rattle.std.specs.Prelude.{ℕ, ◌≡◌, List, Result, ⊤}
 use Rattle.finder.specs.declared.Found.{Found}
 use Rattle.finder.specs.Find.{find_in, part_of}
+use Rattle.messages.specs.declared.refusal.Refusal.{Refusal}
+use Rattle.messages.specs.Refusal.{number_by}
 use Rattle.messages.specs.Asked.{Asked}
 use Rattle.messages.specs.declared.Shown.{Shown}
 use Rattle.messages.specs.Shown.{shown_of}
 use Rattle.calls.specs.Calls.{Areas, Call, Outcome}
-use Rattle.link.specs.declared.Answered.{Answered}
 use Rattle.link.specs.declared.Checked.{Checked}
-use Rattle.back.specs.declared.Back.{Back}
+use Rattle.back.specs.Back.{Back}
 use Rattle.link.specs.Check.{checked_by, check_of}
-use Rattle.link.specs.Contract.{Gives}
+use Rattle.link.specs.declared.Answered.{Answered}
+use Rattle.link.specs.Contract.{GivenBack, given_by, Gives}
 use Rattle.back.specs.Back.{StepsBack}
 use Rattle.board.specs.Calls.{Receives, CabinetGives, CabinetChecks, backed_of}
 
 -- `answer`, `answer_lent` and `act`, whatever outcome a contract cites: every number, what is told of the sum, and every lent byte
 abbrev pub OneAnswer : Type 0
 OneAnswer =
-    (outcomeOf : Call → Outcome) (c : Call) (r r' : Answered) (a a' : Areas) (reply reply' : List ℕ)
+    (outcomeOf : Call → Outcome) (c : Call) (r r' : GivenBack) (a a' : Areas) (reply reply' : List ℕ)
     → Gives outcomeOf c r a reply → Gives outcomeOf c r' a' reply' → (r ≡ r') × (a ≡ a') × (reply ≡ reply')
+
+-- and an answer is told by what it gives back, a step back's by its number: their refusals have a number each
+abbrev pub OneAnswered : Type 0
+OneAnswered = (r r' : Answered) → given_by r ≡ given_by r' → r ≡ r'
+
+abbrev pub OneStepped : Type 0
+OneStepped = (r r' : Result ⊤ Refusal) → number_by r ≡ number_by r' → r ≡ r'
 
 -- `check`, and what `show` makes of what it answers
 pub record OneCheck (c : Call) : Type 0 where

@@ -8,9 +8,8 @@ use Rattle.messages.specs.Rows.{◌when◌, first_of}
 use Rattle.messages.specs.Asked.{number_given}
 use Rattle.calls.specs.Calls.{Areas, Sent, Call, Outcome, call_of, unanswered}
 use Rattle.refusals.specs.Refusals.{early, count_rows, told_of}
-use Rattle.link.specs.declared.Answered.{Answered}
 use Rattle.link.specs.Answer.{asked, text_of, areas_after}
-use Rattle.link.specs.Contract.{Answers}
+use Rattle.link.specs.Contract.{GivenBack, Answers}
 use Rattle.demands.specs.Refused.{among}
 use Rattle.demands.specs.History.{Conduct}
 use Rattle.demands.specs.Reading.{asking}
@@ -92,7 +91,7 @@ pub record SwitchedOffRule (board : Conduct) : Type 0 where
   pub sum_told : (c : Call) → SumTold c (board.answer c)
 
 -- so for the contract of `answer`, with the setting on: every number and every lent byte as before
-pub record AnsweredBefore (c : Call) (r : Answered) (areas' : Areas) (reply' : List ℕ) : Type 0 where
+pub record AnsweredBefore (c : Call) (r : GivenBack) (areas' : Areas) (reply' : List ℕ) : Type 0 where
   pub number_is : r.number ≡ (answer_before c).number
   pub length_is : r.length ≡ length (answer_before c).text
   pub kept_is : r.kept ≡ (answer_before c).areas.kept
@@ -101,4 +100,4 @@ pub record AnsweredBefore (c : Call) (r : Answered) (areas' : Areas) (reply' : L
 
 abbrev pub ContractAsBefore : Type 0
 ContractAsBefore =
-    (c : Call) (r : Answered) (areas' : Areas) (reply' : List ℕ) → Answers (allowing true c) r areas' reply' → AnsweredBefore c r areas' reply'
+    (c : Call) (r : GivenBack) (areas' : Areas) (reply' : List ℕ) → Answers (allowing true c) r areas' reply' → AnsweredBefore c r areas' reply'

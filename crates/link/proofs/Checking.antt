@@ -23,10 +23,9 @@ use Rattle.refusals.specs.Refusals.{too_short, late, silent_of, told_after, told
 use Rattle.refusals.proofs.Rows.{passed, checked_rows, told_untested}
 use Rattle.refusals.proofs.Tested.{shaped_long, sound}
 use Rattle.orders.specs.declared.Order as order
-use Rattle.link.specs.declared.Answered.{Answered}
 use Rattle.link.specs.Answer.{held, asked, text_of, areas_after, answer_of}
 use Rattle.link.specs.Check.{Looked, check_of, refused_text, act_text, act_of}
-use Rattle.link.specs.Contract.{Heard, Gives, Acts}
+use Rattle.link.specs.Contract.{GivenBack, Heard, Gives, Acts}
 use Rattle.link.proofs.Answering.{silent_answer, heard_answer, silent_number_lem}
 use Rattle.link.proofs.Outcomes.{handing_on, gives_by}
 
@@ -158,7 +157,7 @@ same_act c = go (too_short (length c.sent.reply)) refl
     go false e = long_same c e
 
 -- results of one outcome are results of an equal one
-pub same_gives : {f g : Call → Outcome} (c : Call) {r : Answered} {areas' : Areas} {reply' : List ℕ} → f c ≡ g c → Gives f c r areas' reply' → Gives g c r areas' reply'
+pub same_gives : {f g : Call → Outcome} (c : Call) {r : GivenBack} {areas' : Areas} {reply' : List ℕ} → f c ≡ g c → Gives f c r areas' reply' → Gives g c r areas' reply'
 same_gives {f} c e x =
     gives_by c (f c) _ _ _ (x.kept_is ∙ sym (ap (λ (a : Areas). a.kept) x.areas_are)) (sym e) x.number_is x.length_is x.sum_is x.areas_are
     x.reply_is
@@ -175,7 +174,7 @@ module _ (c : Call) (long : 1024 ≤ length c.sent.reply) {k : Looked} (checked 
   enough = le-ltb _ _ long
 
   -- the check refused
-  pub acted_refused : (n : ℕ) (r : Answered) (reply' : List ℕ) → k.asked ≡ Refused n
+  pub acted_refused : (n : ℕ) (r : GivenBack) (reply' : List ℕ) → k.asked ≡ Refused n
       → (r.number ≡ n) × (r.length ≡ length (refused_text c.sent.settings.station n)) × (r.kept ≡ c.areas.kept) × (r.sum ≡ k.sum)
       → reply' ≡ laid c.sent.reply 0 (refused_text c.sent.settings.station n) → Acts c r (handing_on c.areas r.kept) reply'
   acted_refused n r reply' e f g =

@@ -32,9 +32,8 @@ use Rattle.orders.specs.Contract.{kind_in, Ordered, Says, Stores, count_left}
 use Rattle.orders.proofs.Judging.{writable}
 use Rattle.orders.proofs.Handling.{content, said_same}
 use Rattle.orders.proofs.Counting.{count_same}
-use Rattle.link.specs.declared.Answered.{Answered}
 use Rattle.link.specs.Answer.{held, asked, text_of, areas_after, answer_of}
-use Rattle.link.specs.Contract.{Heard, accepted, Gives, Answers, Performs}
+use Rattle.link.specs.Contract.{GivenBack, Heard, accepted, Gives, Answers, Performs}
 use Rattle.link.proofs.Answering.{heard_answer}
 use Rattle.link.proofs.Carrying.{Fine, fine, counts, ordered}
 
@@ -43,7 +42,7 @@ abbrev pub handing_on : Areas → Kept → Areas
 handing_on a k = areas_of a.points a.columns a.integers a.flags a.journal k a.firsts
 
 -- a result that is the outcome
-pub gives_by : {f : Call → Outcome} (c : Call) (o : Outcome) (r : Answered) (areas' : Areas) (reply' : List ℕ) → r.kept ≡ areas'.kept → f c ≡ o
+pub gives_by : {f : Call → Outcome} (c : Call) (o : Outcome) (r : GivenBack) (areas' : Areas) (reply' : List ℕ) → r.kept ≡ areas'.kept → f c ≡ o
     → r.number ≡ o.number → r.length ≡ length o.text → r.sum ≡ o.sum → areas' ≡ o.areas → reply' ≡ laid c.sent.reply 0 o.text
     → Gives f c r areas' reply'
 gives_by c o r areas' reply' k e n l s a t =
@@ -169,7 +168,7 @@ module _ {c : Call} {o : Order} (e : Heard c o) (tag : ℕ) (whole : replacing t
         (p.bytes ∙ ap (λ (x : List ℕ). laid c.sent.reply 0 (reply_of normal c.sent.settings.station x)) said)
 
 -- the result that says so
-pub accepted_so : {c : Call} {r : Answered} (done : Done) {t : Option Sum} {p i n f j reply' : List ℕ} {s : Firsts} → r ≡ accepted done t → t ≡ told_of c
+pub accepted_so : {c : Call} {r : GivenBack} (done : Done) {t : Option Sum} {p i n f j reply' : List ℕ} {s : Firsts} → r ≡ accepted done t → t ≡ told_of c
     → Performs c done (areas_of p i n f j done.kept s) reply' → Answers c r (areas_of p i n f j r.kept s) reply'
 accepted_so {c} done {t} {p} {i} {n} {f} {j} {reply'} {s} e g a =
-    subst (λ (x : Answered). Answers c x (areas_of p i n f j x.kept s) reply') (sym (e ∙ ap (λ (x : Option Sum). accepted done x) g)) a
+    subst (λ (x : GivenBack). Answers c x (areas_of p i n f j x.kept s) reply') (sym (e ∙ ap (λ (x : Option Sum). accepted done x) g)) a

@@ -6,7 +6,7 @@ use native.Mathlib.Omega.{arith}
 use lib.Dec.{eqb}
 use Rattle.messages.specs.declared.refusal.Refusal.{Refusal}
 use Rattle.messages.specs.declared.refusal.Refusal.TheVariants.{ReplyArea, PointsArea, ColumnsArea, JournalArea, AxisRecords, Shape, WrongSum, OtherStation, NothingToStepBack, VariableAreas, KeptCount, SumSwitchedOff, Release, UnknownMessage, NotDigits, ContentLength, ProgramNumber, CountZero, NotHeld, AxisPattern, ChangeType}
-use Rattle.std.specs.Prelude.{Result, Ok, Err}
+use Rattle.std.specs.Prelude.{Result, Ok, Err, ⊤}
 use Rattle.messages.specs.declared.Request.{Request}
 use Rattle.messages.specs.Asked.{asked_by}
 use Rattle.messages.specs.Refusal.{refusal_number, number_by}
@@ -92,6 +92,13 @@ err_number e = ap number_by e
 
 pub ok_number : {A : Type 0} {x : Result A Refusal} {v : A} → x ≡ Ok v → number_by x ≡ 0
 ok_number e = ap number_by e
+
+-- and the number of an answer that says nothing else tells which it is
+pub same_number : (x y : Result ⊤ Refusal) → number_by x ≡ number_by y → x ≡ y
+same_number (Ok a) (Ok b) e = refl
+same_number (Err r) (Err s) e = ap Err (same_refusal e)
+same_number (Ok a) (Err s) e = absurd (refusal_some s (sym e))
+same_number (Err r) (Ok b) e = absurd (refusal_some r e)
 
 -- what an answer says that a frame asks tells which answer it is
 pub same_asked_by : (x y : Result Request Refusal) → asked_by x ≡ asked_by y → x ≡ y

@@ -1,5 +1,5 @@
 ghost use Rattle.std.specs.Prelude.{◌≡◌};
-ghost use Rattle.messages.specs.Refusal.{refusal_number};
+ghost use Rattle.messages.specs.Refusal.{refusal_number, number_by};
 
 // Why a frame or a step back is refused, in the order of the numbers (document 01, "Refusal numbers"; document 02, a: 10 and 108; b: 11; f: 12; l: 13).
 #[derive(Clone, Copy, Debug, PartialEq, Eq)]
@@ -55,5 +55,15 @@ impl From<Refusal> for u16 {
             Refusal::AxisPattern => 107,
             Refusal::ChangeType => 108,
         }
+    }
+}
+
+// The number of a call that answers nothing else: 0 where it is accepted.
+pub fn number_of(outcome: Result<(), Refusal>) -> u16
+    ensures { result ≡ number_by outcome }
+{
+    match outcome {
+        Ok(()) => 0,
+        Err(refusal) => refusal.into(),
     }
 }

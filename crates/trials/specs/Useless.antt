@@ -11,10 +11,9 @@ use Rattle.table.specs.declared.Message.{Message}
 use Rattle.messages.specs.Asked.{Asked, Refused, Order}
 use Rattle.calls.specs.declared.Kept.{Kept}
 use Rattle.calls.specs.Calls.{Areas, Sent, Call, Outcome, areas_of, area_in, put_in, unanswered}
-use Rattle.link.specs.declared.Answered.{Answered}
 use Rattle.orders.specs.Orders.{rest, writes, new_bytes}
 use Rattle.link.specs.Answer.{held, asked, answer_of}
-use Rattle.link.specs.Contract.{Answers}
+use Rattle.link.specs.Contract.{GivenBack, Answers}
 use Rattle.back.specs.Back.{back_of}
 use Rattle.demands.specs.Refused.{asks_write}
 use Rattle.demands.specs.History.{Conduct, entries, effective_of, CountTrue, entry_by}
@@ -69,7 +68,7 @@ pub record InventsUsed (answer : Call → Outcome) : Type 0 where
 
 -- all that a board gives for a call
 pub record Given : Type 0 where
-  pub answered : Answered
+  pub answered : GivenBack
   pub areas : Areas
   pub reply : List ℕ
 

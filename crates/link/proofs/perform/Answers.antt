@@ -1,34 +1,36 @@
+use Rattle.std.proofs.Common.{rules}
 use mathlib.Core.Path.{refl}
 use Rattle.kinds.specs.Kinds.{points_tag, columns_tag, integers_tag, flags_tag}
-use Rattle.calls.specs.Calls.{Call, call_of, areas_of}
+use Rattle.calls.specs.Calls.{Call, call_of}
+use Rattle.calls.specs.Lent.{areas_in}
 use Rattle.link.specs.Answer.{held}
 use Rattle.link.proofs.Outcomes.{last_kind, can_carry, performed}
 use Rattle.link.proofs.perform.Goals as goal
 
 pub carry_out-requires : goal.carry_out-requires
-carry_out-requires c = can_carry c.requires points_tag refl (λ _. c.if-tag-eq-POINTS.true)
+carry_out-requires c = can_carry c.requires points_tag refl (λ _. c.in-80.is)
 
-pub returns-then-tag-eq-POINTS : goal.returns-then-tag-eq-POINTS
-returns-then-tag-eq-POINTS c = performed c.requires points_tag refl (λ _. c.if-tag-eq-POINTS.true) c.carry_out.ensures.says c.carry_out.ensures.stores c.carry_out.ensures.effective_value
+pub returns-in-80-clause-performs : goal.returns-in-80-clause-performs
+returns-in-80-clause-performs c = performed c.requires points_tag refl (λ _. c.in-80.is) c.carry_out.ensures.says c.carry_out.ensures.stores c.carry_out.ensures.effective_value
 
-pub carry_out-requires-then-tag-eq-COLUMNS : goal.carry_out-requires-then-tag-eq-COLUMNS
-carry_out-requires-then-tag-eq-COLUMNS c = can_carry c.requires columns_tag refl (λ _. c.if-tag-eq-COLUMNS.true)
+pub carry_out-requires-in-83 : goal.carry_out-requires-in-83
+carry_out-requires-in-83 c = can_carry c.requires columns_tag refl (λ _. c.in-83.is)
 
-pub returns-then-tag-eq-COLUMNS : goal.returns-then-tag-eq-COLUMNS
-returns-then-tag-eq-COLUMNS c = performed c.requires columns_tag refl (λ _. c.if-tag-eq-COLUMNS.true) c.carry_out-then-tag-eq-COLUMNS.ensures.says c.carry_out-then-tag-eq-COLUMNS.ensures.stores c.carry_out-then-tag-eq-COLUMNS.ensures.effective_value
+pub returns-in-83-clause-performs : goal.returns-in-83-clause-performs
+returns-in-83-clause-performs c = performed c.requires columns_tag refl (λ _. c.in-83.is) c.carry_out-in-83.ensures.says c.carry_out-in-83.ensures.stores c.carry_out-in-83.ensures.effective_value
 
-pub carry_out-requires-then-tag-eq-INTEGERS : goal.carry_out-requires-then-tag-eq-INTEGERS
-carry_out-requires-then-tag-eq-INTEGERS c = can_carry c.requires integers_tag refl (λ _. c.if-tag-eq-INTEGERS.true)
+pub carry_out-requires-in-73 : goal.carry_out-requires-in-73
+carry_out-requires-in-73 c = can_carry c.requires integers_tag refl (λ _. c.in-73.is)
 
-pub returns-then-tag-eq-INTEGERS : goal.returns-then-tag-eq-INTEGERS
-returns-then-tag-eq-INTEGERS c = performed c.requires integers_tag refl (λ _. c.if-tag-eq-INTEGERS.true) c.carry_out-then-tag-eq-INTEGERS.ensures.says c.carry_out-then-tag-eq-INTEGERS.ensures.stores c.carry_out-then-tag-eq-INTEGERS.ensures.effective_value
+pub returns-in-73-clause-performs : goal.returns-in-73-clause-performs
+returns-in-73-clause-performs c = performed c.requires integers_tag refl (λ _. c.in-73.is) c.carry_out-in-73.ensures.says c.carry_out-in-73.ensures.stores c.carry_out-in-73.ensures.effective_value
 
-pub carry_out-requires-2 : goal.carry_out-requires-2
-carry_out-requires-2 c =
-    let call : Call = call_of c.args.frame.now c.args.axes c.args.settings c.args.reply.now (areas_of c.args.points.now c.args.columns.now c.args.integers.now c.args.flags.now c.args.journal.now c.args.kept c.args.firsts) in
-    can_carry c.requires flags_tag refl (last_kind (held call) _ c.if-tag-eq-POINTS.false c.if-tag-eq-COLUMNS.false c.if-tag-eq-INTEGERS.false)
+pub carry_out-requires-in_default : goal.carry_out-requires-in_default
+carry_out-requires-in_default c =
+    let call : Call = call_of c.args.frame.now c.args.axes c.args.settings c.args.reply.now (areas_in c.args.areas.now) in
+    can_carry c.requires flags_tag refl (last_kind (held call) _ (search rules) (search rules) (search rules))
 
-pub returns : goal.returns
-returns c =
-    let call : Call = call_of c.args.frame.now c.args.axes c.args.settings c.args.reply.now (areas_of c.args.points.now c.args.columns.now c.args.integers.now c.args.flags.now c.args.journal.now c.args.kept c.args.firsts) in
-    performed c.requires flags_tag refl (last_kind (held call) _ c.if-tag-eq-POINTS.false c.if-tag-eq-COLUMNS.false c.if-tag-eq-INTEGERS.false) c.carry_out-2.ensures.says c.carry_out-2.ensures.stores c.carry_out-2.ensures.effective_value
+pub returns-in_default-clause-performs : goal.returns-in_default-clause-performs
+returns-in_default-clause-performs c =
+    let call : Call = call_of c.args.frame.now c.args.axes c.args.settings c.args.reply.now (areas_in c.args.areas.now) in
+    performed c.requires flags_tag refl (last_kind (held call) _ (search rules) (search rules) (search rules)) c.carry_out-in_default.ensures.says c.carry_out-in_default.ensures.stores c.carry_out-in_default.ensures.effective_value

@@ -14,7 +14,7 @@ returns-then-number-gt100 c =
     let t = sym (error_text c.args.station n (omega (arith, c.if-number-gt100.true, c.from-number.ensures))) in
     let e = rw c.from-number.ensures at c.error_reply-length.ensures in
     record {
-      number_value = (c.from-number.ensures, e.value ∙ sym (length_reply _ _ _) ∙ ap length t, refl, refl);
+      number_value = (refl, e.value ∙ sym (length_reply _ _ _) ∙ ap length t, refl, refl);
       reply_after = e.reply_after ∙ ap (laid c.args.reply.now 0) t;
     }
 
@@ -22,6 +22,6 @@ pub returns-else-number-gt100 : goal.returns-else-number-gt100
 returns-else-number-gt100 c =
     let t = sym (no_text c.args.station (refusal_number c.args.refusal) (omega (arith, c.if-number-gt100.false, c.from-number.ensures))) in
     record {
-      number_value = (c.from-number.ensures, ap length t, refl, refl);
+      number_value = (refl, ap length t, refl, refl);
       reply_after = sym (laid_nothing c.args.reply.now 0) ∙ ap (laid c.args.reply.now 0) t;
     }
