@@ -1,8 +1,8 @@
 // Kinds of numbered things, as values (document 01, "The areas" and "Journal"; document 02, a).
 #![tactic(auto)]
 
-ghost use Rattle.std.specs.Prelude.{◌≡◌, ◌+◌, ◌*◌, ◌<◌, ◌≤◌, ◌^◌};
-ghost use Rattle.kinds.specs.Kinds.{points_of, columns_of, integers_of, flags_of, kind_of, held_in, holds, place_of};
+ghost use Rattle.std.specs.Prelude.{◌≡◌, ◌+◌, ◌*◌, ◌<◌, ◌≤◌, ◌^◌, length};
+ghost use Rattle.kinds.specs.Kinds.{points_of, columns_of, integers_of, flags_of, kind_of, held_in, holds, place_of, run_of};
 
 // A kind of numbered thing: its journal tag, first number, bytes for each, how many are held, how many an entry may name.
 #[derive(Clone, Copy, Debug, PartialEq, Eq)]
@@ -19,6 +19,14 @@ pub struct Kind {
 pub struct Firsts {
     pub integer: u16,
     pub flag: u16,
+}
+
+// A run: so many neighbouring numbers of one kind.
+#[derive(Clone, Copy, Debug, PartialEq, Eq)]
+pub struct Run {
+    pub kind: Kind,
+    pub start: usize,
+    pub count: usize,
 }
 
 // What the board holds: how many points, and the first numbers of variables.
@@ -147,5 +155,33 @@ impl Kind {
         ensures { result ≡ place_of self start }
     {
         (start - self.first) * self.unit
+    }
+}
+
+impl Run {
+    // Where its first number stands in the area of its kind.
+    pub fn at(self) -> usize
+        requires { (self.kind.first ≤ self.start) × (place_of self.kind self.start < 2 ^ 63) }
+        ensures { result ≡ place_of self.kind self.start }
+    {
+        self.kind.place(self.start)
+    }
+
+    // How many bytes it has.
+    pub fn size(self) -> usize
+        requires { self.count * self.kind.unit < 2 ^ 63 }
+        ensures { result ≡ self.count * self.kind.unit }
+    {
+        self.count * self.kind.unit
+    }
+
+    // The part of its area where it stands.
+    pub fn part(self, area: &[u8]) -> &[u8]
+        requires { (self.kind.first ≤ self.start) × (place_of self.kind self.start + self.count * self.kind.unit ≤ length area.now) }
+        ensures value { result.now ≡ run_of self.kind self.start self.count area.now }
+        ensures long { length result.now ≡ self.count * self.kind.unit }
+    {
+        let at = self.at();
+        &area[at..at + self.size()]
     }
 }
