@@ -3,16 +3,15 @@ use Prim.Native.Nat.{ℕ, zero, suc, ◌+◌, ◌-◌, ◌*◌, ◌≤◌}
 use mathlib.Core.Path.{◌≡◌, refl, sym, ap, ◌∙◌}
 use mathlib.Core.Bool.{Bool, true, false, cond}
 use mathlib.Core.List.{List, [], ◌∷◌, ◌++◌}
-use native.Mathlib.Nat.{zero-add, suc-add, add-sub_cancel_left}
+use native.Mathlib.Nat.{zero-add, suc-add}
 use native.Mathlib.Omega.{arith}
 use lib.Dec.{eqb}
 use lib.ListN.{length, take, drop, get_or, replicate, length-drop, length-replicate, take-append-drop, replicate-append-replicate, get_or-append}
 use lib.Seq.{length-take-le, drop-append-le, drop-drop}
 use borrow.Author.Tests.{eqb-true}
 use Rattle.digits.specs.Laid.{laid}
-use Rattle.kinds.specs.declared.Kind.{Kind}
 use Rattle.kinds.specs.declared.Held.{Held}
-use Rattle.kinds.specs.Kinds.{points_tag, points_of, kind_of, holds, place_of, run_of, put}
+use Rattle.kinds.specs.Kinds.{points_tag, points_of, kind_of, holds, run_of, put}
 use Rattle.kinds.proofs.Known.{tag_of, kind_points, within, room}
 use Rattle.kinds.proofs.Promised.{run}
 use Rattle.points.specs.Point.{effective_in}
@@ -67,17 +66,6 @@ effective_put h start count bytes area e l k =
     let a = ap (effective_in h.points) new ∙ effective_three h.points at count s bytes u (omega arith) ls k in
     let b = ap (effective_in h.points) old ∙ effective_three h.points at count s t u (omega arith) ls lt in
     omega arith
-
--- the part of an area that is lent to be counted: so many slots, and those of the run
-pub run_slots : (count at : ℕ) (area : List ℕ) → at + count * 40 ≤ length area → length (take (at + count * 40 - at) (drop at area)) ≡ 40 * count
-run_slots count at area h =
-    let l = length-take-le (at + count * 40 - at) (drop at area) (simp length-drop (omega arith)) in
-    omega (arith, l)
-
-pub run_lent : (k : Kind) (start count at : ℕ) (area : List ℕ) → k.unit ≡ 40 → at ≡ place_of k start
-    → effective_in count (take (at + count * 40 - at) (drop at area)) ≡ effective_in count (run_of k start count area)
-unfolding run_of
-run_lent k start count at area u e = rw (e, u, add-sub_cancel_left ((start - k.first) * 40) (count * 40))
 
 -- so the effective slots of a run are among all, and after others were put over them the count is that without the old ones and with the new
 pub run_recounted : (h : Held) (start count : ℕ) (bytes area : List ℕ) → holds (points_of h) start count ≡ true → length area ≡ h.points * 40 → length bytes ≡ count * 40

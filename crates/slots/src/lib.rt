@@ -9,7 +9,7 @@ ghost use Rattle.points.specs.Point.{fills_of, position_bytes, slot_of, slots_of
 ghost use Rattle.slots.specs.Counted.{effective_among};
 
 use areas::bytes::{four_at, put_four, put_two, two_at};
-use kinds::Kind;
+use kinds::{Kind, Run};
 use points::point::Point;
 use points::reading::{point_length, read_point};
 use points::units::{Acceleration, Position, Speed};
@@ -98,13 +98,13 @@ pub fn count_effective(area: &[u8], n: usize) -> usize
 }
 
 // How many effective slots a run has that lies in its area; a run of another kind than points has none.
-pub fn count_run(area: &[u8], k: Kind, start: usize, count: usize) -> usize
-    requires { k.tag ≡ points_tag → (k.unit ≡ 40) × (k.first ≤ start) × (count ≤ 1500) × (place_of k start + count * 40 ≤ length area.now) }
-    ensures { result ≡ effective_among k start count area.now }
+pub fn count_run(area: &[u8], run: Run) -> usize
+    requires { run.kind.tag ≡ points_tag → (run.kind.unit ≡ 40) × (run.kind.first ≤ run.start) × (run.count ≤ 1500)
+        × (place_of run.kind run.start + run.count * 40 ≤ length area.now) }
+    ensures { result ≡ effective_among run.kind run.start run.count area.now }
 {
-    if k.tag != Kind::POINTS {
+    if run.kind.tag != Kind::POINTS {
         return 0;
     }
-    let at = k.place(start);
-    count_effective(&area[at..at + count * Point::SLOT], count)
+    count_effective(run.part(area), run.count)
 }
