@@ -3,6 +3,7 @@
 #![tactic(auto)]
 
 ghost use Rattle.std.specs.Prelude.{◌≡◌, true, [], ◌∷◌, ◌*◌, length, replicate};
+ghost use Rattle.std.specs.Fn.{FnOnceTakesAtMut, FnOnceReturnsAtMut};
 ghost use Rattle.digits.specs.Digits.{all_digits, number_of};
 ghost use Rattle.pairs.specs.Pairs.{bytes_in};
 ghost use Rattle.points.specs.Point.{fills_of, slots_of};
@@ -10,27 +11,27 @@ ghost use Rattle.writes.specs.Writes.{Ready, Entered, Written};
 
 use areas::runs::clear_run;
 use journal::add;
-use kinds::{Held, Kind};
+use kinds::{Held, Run};
 use pairs::set_bytes;
 use slots::lay_points;
 
-// One entry with what stands in a run. The new used length.
-// Each write below enters and then puts, in two lines of its own: one function over a closure would take eight arguments and be no plainer.
-fn enter(
-    area: &[u8],
+// What stands in a run goes into the journal as one entry, and then the run is put. The new used length.
+fn write<F: FnOnce(&mut [u8])>(
+    area: &mut [u8],
     journal: &mut [u8],
     used: usize,
     held: Held,
-    k: Kind,
-    start: usize,
-    count: usize,
+    run: Run,
+    put: F,
 ) -> usize
-    requires { Ready held k start count area.now journal.old used }
-    ensures { Entered held k start count area.now journal.old journal.new used result }
+    requires ready { Ready held run.kind run.start run.count area.old journal.old used }
+    requires takes { FnOnceTakesAtMut F.FnOnce put area.old }
+    ensures puts { FnOnceReturnsAtMut F.FnOnce put area.old tt area.new }
+    ensures journalled { Entered held run.kind run.start run.count area.old journal.old journal.new used result }
 {
-    let at = k.place(start);
-    let many = count * k.unit;
-    add(journal, used, k.tag, start, &area[at..at + many], held)
+    let left = add(journal, used, run.kind.tag, run.start, run.part(area), held);
+    put(area);
+    left
 }
 
 // 244H: so many points that digits write. The new used length.
@@ -39,38 +40,28 @@ pub fn write_points(
     journal: &mut [u8],
     used: usize,
     held: Held,
-    k: Kind,
-    start: usize,
-    count: usize,
+    run: Run,
     digits: &[u8],
 ) -> usize
-    requires unit_value { (k.unit ≡ 40) × (all_digits digits.now ≡ true) × (fills_of count digits.now ≡ true) }
-    requires ready { Ready held k start count area.old journal.old used }
-    ensures { Written held k start count (slots_of count digits.now)
+    requires unit_value { (run.kind.unit ≡ 40) × (all_digits digits.now ≡ true) × (fills_of run.count digits.now ≡ true) }
+    requires ready { Ready held run.kind run.start run.count area.old journal.old used }
+    ensures { Written held run.kind run.start run.count (slots_of run.count digits.now)
         area.old area.new journal.old journal.new used result }
 {
-    let left = enter(area, journal, used, held, k, start, count);
-    lay_points(area, k.place(start), digits, count);
-    left
+    write(area, journal, used, held, run, |area| {
+        lay_points(area, run.at(), digits, run.count)
+    })
 }
 
 // 246H: a run set to zero. The new used length.
-pub fn clear(
-    area: &mut [u8],
-    journal: &mut [u8],
-    used: usize,
-    held: Held,
-    k: Kind,
-    start: usize,
-    count: usize,
-) -> usize
-    requires { Ready held k start count area.old journal.old used }
-    ensures { Written held k start count (replicate (count * k.unit) 0)
+pub fn clear(area: &mut [u8], journal: &mut [u8], used: usize, held: Held, run: Run) -> usize
+    requires { Ready held run.kind run.start run.count area.old journal.old used }
+    ensures { Written held run.kind run.start run.count (replicate (run.count * run.kind.unit) 0)
         area.old area.new journal.old journal.new used result }
 {
-    let left = enter(area, journal, used, held, k, start, count);
-    clear_run(area, k.place(start), count * k.unit);
-    left
+    write(area, journal, used, held, run, |area| {
+        clear_run(area, run.at(), run.size())
+    })
 }
 
 // 24EH, 24CH, and every message that changes a run: one byte for each pair of digits. The new used length.
@@ -79,19 +70,17 @@ pub fn change(
     journal: &mut [u8],
     used: usize,
     held: Held,
-    k: Kind,
-    start: usize,
-    count: usize,
+    run: Run,
     digits: &[u8],
 ) -> usize
-    requires digits_value { (all_digits digits.now ≡ true) × (length digits.now ≡ 2 * (count * k.unit)) }
-    requires ready { Ready held k start count area.old journal.old used }
-    ensures { Written held k start count (bytes_in digits.now)
+    requires digits_value { (all_digits digits.now ≡ true) × (length digits.now ≡ 2 * (run.count * run.kind.unit)) }
+    requires ready { Ready held run.kind run.start run.count area.old journal.old used }
+    ensures { Written held run.kind run.start run.count (bytes_in digits.now)
         area.old area.new journal.old journal.new used result }
 {
-    let left = enter(area, journal, used, held, k, start, count);
-    set_bytes(area, k.place(start), digits, count * k.unit);
-    left
+    write(area, journal, used, held, run, |area| {
+        set_bytes(area, run.at(), digits, run.size())
+    })
 }
 
 // 24BH: one flag set to what its change type says. The new used length.
@@ -100,17 +89,14 @@ pub fn set_flag(
     journal: &mut [u8],
     used: usize,
     held: Held,
-    k: Kind,
-    start: usize,
+    run: Run,
     digits: &[u8],
 ) -> usize
-    requires unit_value { (k.unit ≡ 1) × (all_digits digits.now ≡ true) × (length digits.now ≡ 1) }
-    requires ready { Ready held k start 1 area.old journal.old used }
-    ensures { Written held k start 1 (number_of digits.now ∷ [])
+    requires unit_value { (run.kind.unit ≡ 1) × (all_digits digits.now ≡ true) × (length digits.now ≡ 1) }
+    requires ready { Ready held run.kind run.start run.count area.old journal.old used }
+    ensures { Written held run.kind run.start run.count (number_of digits.now ∷ [])
         area.old area.new journal.old journal.new used result }
 {
-    let left = enter(area, journal, used, held, k, start, 1);
     let value = digits::worth(digits[0]);
-    area[k.place(start)] = value;
-    left
+    write(area, journal, used, held, run, |area| area[run.at()] = value)
 }

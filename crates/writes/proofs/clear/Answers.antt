@@ -1,14 +1,11 @@
-use native.Mathlib.Omega.{arith}
-use Rattle.writes.proofs.Spans.{span, put_at}
+use Rattle.std.proofs.Common.{rules}
+use Rattle.kinds.specs.Kinds.{put}
+use Rattle.writes.proofs.Spans.{span}
 use Rattle.writes.proofs.clear.Goals as goal
 
-pub place-requires : goal.place-requires
-place-requires c = let l = span c.requires in (l.first, omega (arith, l.inside, l.small))
-
-pub clear_run-requires : goal.clear_run-requires
-clear_run-requires c = let l = span c.requires in omega (arith, l.inside, c.place.ensures)
+pub write-requires-clause-takes : goal.write-requires-clause-takes
+write-requires-clause-takes c = λ p e. let l = span c.requires in let first = l.first in let inside = l.inside in let small = l.small in search rules
 
 pub returns : goal.returns
-returns c =
-    let a = c.args in
-    record { put_there = put_at _ _ a.k a.start c.clear_run.ensures c.place.ensures; journalled = c.enter-left.ensures }
+unfolding put
+returns c = record { put_there = search rules; journalled = c.write.ensures.journalled }
