@@ -1,15 +1,13 @@
 -- What a board that can be written assures of the run that is named: its place, its bytes, and a good entry.
-use Prim.Native.Nat.{ℕ, ◌+◌, ◌-◌, ◌*◌, ◌≤◌, ◌<◌}
+use Prim.Native.Nat.{ℕ, ◌+◌, ◌*◌, ◌≤◌, ◌<◌}
 use mathlib.Core.Path.{◌≡◌}
 use mathlib.Core.List.{List, [], ◌∷◌}
 use native.Mathlib.Omega.{arith}
-use native.Mathlib.Nat.{add-sub_cancel_left}
-use lib.ListN.{length, take, drop, get_or}
+use lib.ListN.{length, get_or}
 use Rattle.kinds.specs.declared.Kind.{Kind}
 use Rattle.kinds.specs.declared.Held.{Held}
 use Rattle.digits.specs.Digits.{worth_of, number_of}
-use Rattle.digits.specs.Laid.{laid}
-use Rattle.kinds.specs.Kinds.{run_of, put, place_of}
+use Rattle.kinds.specs.Kinds.{run_of, place_of}
 use Rattle.kinds.proofs.Known.{Sized, sized, within, room, run_length}
 use Rattle.journal.specs.Laws.{Good}
 use Rattle.journal.proofs.Fitting.{good}
@@ -35,16 +33,6 @@ span {held} {k} {start} {count} {area} r =
       long = l;
       entry = good held k start count (run_of k start count area) r.sound r.own r.some r.named r.held_all l;
     }
-
--- the part that is lent to the journal is the run
-pub lent : (k : Kind) (start count at : ℕ) (area : List ℕ) → at ≡ place_of k start → take (at + count * k.unit - at) (drop at area) ≡ run_of k start count area
-unfolding run_of
-lent k start count at area e = rw (e, add-sub_cancel_left (place_of k start) (count * k.unit))
-
--- bytes laid at a run's place are put there
-pub put_at : (area bytes : List ℕ) {area' : List ℕ} {at : ℕ} (k : Kind) (start : ℕ) → area' ≡ laid area at bytes → at ≡ place_of k start → area' ≡ put k start bytes area
-unfolding put
-put_at area bytes k start e f = cc
 
 -- what one digit is worth is the number that it writes
 pub one_digit : (digits : List ℕ) {value : ℕ} → length digits ≡ 1 → value ≡ worth_of (get_or digits 0 0) → value ≡ number_of digits

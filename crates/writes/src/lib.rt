@@ -1,6 +1,6 @@
 // The writes: a run of one kind is put into its area, and what stood there goes into the journal (document 01, "Each message" and "Journal";
 // document 02, a).
-#![tactic(auto)]
+#![tactic(auto, unfolding(kinds::specs::Kinds::put))]
 
 ghost use Rattle.std.specs.Prelude.{◌≡◌, true, [], ◌∷◌, ◌*◌, length, replicate};
 ghost use Rattle.std.specs.Fn.{FnOnceTakesAtMut, FnOnceReturnsAtMut};
@@ -15,7 +15,7 @@ use kinds::{Held, Run};
 use pairs::set_bytes;
 use slots::lay_points;
 
-// What stands in a run goes into the journal as one entry, and then the run is put. The new used length.
+// What stands in a run goes into the journal as one entry, and then the write puts its bytes there. The new used length.
 fn write<F: FnOnce(&mut [u8])>(
     area: &mut [u8],
     journal: &mut [u8],
@@ -83,7 +83,7 @@ pub fn change(
     })
 }
 
-// 24BH: one flag set to what its change type says. The new used length.
+// 24BH: a run's one flag set to what its change type says. The new used length.
 pub fn set_flag(
     area: &mut [u8],
     journal: &mut [u8],
@@ -98,5 +98,7 @@ pub fn set_flag(
         area.old area.new journal.old journal.new used result }
 {
     let value = digits::worth(digits[0]);
-    write(area, journal, used, held, run, |area| area[run.at()] = value)
+    write(area, journal, used, held, run, |area| {
+        area[run.at()] = value;
+    })
 }

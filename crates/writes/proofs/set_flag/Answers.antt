@@ -6,7 +6,7 @@ use Rattle.writes.proofs.Spans.{span, one_digit}
 use Rattle.writes.proofs.set_flag.Goals as goal
 
 pub write-requires-clause-takes : goal.write-requires-clause-takes
-write-requires-clause-takes c = λ p e. let l = span c.requires.ready in let first = l.first in let inside = l.inside in let small = l.small in search rules
+write-requires-clause-takes c = λ p e. let l = span c.requires.ready in search rules
 
 pub returns : goal.returns
 unfolding put
