@@ -4,7 +4,6 @@ use mathlib.Core.Path.{◌≡◌, refl, sym, ap, ◌∙◌}
 use mathlib.Core.Bool.{true, false}
 use mathlib.Core.List.{List, ◌++◌, append_assoc}
 use native.Mathlib.Omega.{arith}
-use native.Mathlib.Nat.{add-sub_cancel_left}
 use lib.ListN.{length, take, drop, length-append, length-drop}
 use lib.Seq.{length-take-le}
 use Rattle.digits.specs.Digits.{digits_of}
@@ -67,11 +66,6 @@ module _ (d : List ℕ) (m : Message) (start count : ℕ) where
 
     pub head_alone : m.repeats ≡ false → ((6 ≡ 3 + length (head_of m start count)) × (6 ≤ 18)) × (r1 ≡ laid d 3 (head_of m start count))
     head_alone t = rw t ((refl, omega arith), e)
-
--- the part of an area that is lent is the run
-pub lent : (k : Kind) (start count at : ℕ) (area : List ℕ) → at ≡ place_of k start → take (at + count * k.unit - at) (drop at area) ≡ run_of k start count area
-unfolding run_of
-lent k start count at area e = rw (e, add-sub_cancel_left (place_of k start) (count * k.unit))
 
 -- 210H, 20EH and 20DH: the head, then what is shown of the run's bytes
 pub run_laid : (m : Message) (k : Kind) (start count end : ℕ) (area run : List ℕ) → end ≡ 3 + length (head_of m start count) → run ≡ run_of k start count area

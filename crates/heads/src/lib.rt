@@ -4,7 +4,7 @@
 ghost use Rattle.std.specs.Prelude.{◌≡◌, ◌++◌, ◌+◌, ◌*◌, ◌≤◌, ◌<◌, length};
 ghost use Rattle.digits.specs.Digits.{digits_of};
 ghost use Rattle.digits.specs.Laid.{laid};
-ghost use Rattle.kinds.specs.Kinds.{size_of, place_of, run_of};
+ghost use Rattle.kinds.specs.Kinds.{size_of, place_of};
 ghost use Rattle.table.specs.Table.{Narrow};
 ghost use Rattle.heads.specs.Heads.{head_of, run_text, flags_text};
 ghost use Rattle.heads.specs.Laws.{Replied};
@@ -12,7 +12,7 @@ ghost use Rattle.heads.specs.Laws.{Replied};
 use digits::put_number;
 use flags::put_flags;
 use frames::replies::close_reply;
-use kinds::Kind;
+use kinds::Run;
 use pairs::put_digits;
 use table::Message;
 
@@ -52,52 +52,28 @@ pub fn reply_head(reply: &mut [u8], station: u8, m: Message, start: usize, count
     close_reply(reply, station, end - 3)
 }
 
-// The bytes of a run, as the part of the area where they stand.
-fn run_in(area: &[u8], k: Kind, start: usize, count: usize) -> &[u8]
-    requires { (k.first ≤ start) × (length area.now < 65536) × (place_of k start + count * k.unit ≤ length area.now) }
-    ensures value { result.now ≡ run_of k start count area.now }
-    ensures long { length result.now ≡ count * k.unit }
-{
-    let at = k.place(start);
-    &area[at..at + count * k.unit]
-}
-
 // 210H, 20EH, and every message that reads a run: the head, then two digits for each byte.
-pub fn reply_run(
-    reply: &mut [u8],
-    station: u8,
-    m: Message,
-    k: Kind,
-    area: &[u8],
-    start: usize,
-    count: usize,
-) -> usize
-    requires narrow { Narrow m × (1024 ≤ length reply.old) × (k.first ≤ start) × (2 * (count * k.unit) ≤ 1000) }
-    requires area_len { (length area.now ≡ size_of k) × (place_of k start + count * k.unit ≤ size_of k) × (size_of k < 65536) }
-    ensures { Replied reply.old reply.new result station (run_text m k start count area.now) }
+pub fn reply_run(reply: &mut [u8], station: u8, m: Message, run: Run, area: &[u8]) -> usize
+    requires narrow { Narrow m × (1024 ≤ length reply.old) × (run.kind.first ≤ run.start) × (2 * (run.count * run.kind.unit) ≤ 1000) }
+    requires area_len { (length area.now ≡ size_of run.kind) × (place_of run.kind run.start + run.count * run.kind.unit ≤ size_of run.kind)
+        × (size_of run.kind < 65536) }
+    ensures { Replied reply.old reply.new result station (run_text m run.kind run.start run.count area.now) }
 {
-    let end = put_head(reply, m, start, count);
-    let run = run_in(area, k, start, count);
-    put_digits(reply, end, run);
-    close_reply(reply, station, end - 3 + 2 * run.len())
+    let end = put_head(reply, m, run.start, run.count);
+    let bytes = run.part(area);
+    put_digits(reply, end, bytes);
+    close_reply(reply, station, end - 3 + 2 * bytes.len())
 }
 
 // 20DH: the head, then two digits for each eight flags begun.
-pub fn reply_flags(
-    reply: &mut [u8],
-    station: u8,
-    m: Message,
-    k: Kind,
-    area: &[u8],
-    start: usize,
-    count: usize,
-) -> usize
-    requires narrow { Narrow m × (1024 ≤ length reply.old) × (k.first ≤ start) × (count * k.unit ≤ 1000) }
-    requires area_len { (length area.now ≡ size_of k) × (place_of k start + count * k.unit ≤ size_of k) × (size_of k < 65536) }
-    ensures { Replied reply.old reply.new result station (flags_text m k start count area.now) }
+pub fn reply_flags(reply: &mut [u8], station: u8, m: Message, run: Run, area: &[u8]) -> usize
+    requires narrow { Narrow m × (1024 ≤ length reply.old) × (run.kind.first ≤ run.start) × (run.count * run.kind.unit ≤ 1000) }
+    requires area_len { (length area.now ≡ size_of run.kind) × (place_of run.kind run.start + run.count * run.kind.unit ≤ size_of run.kind)
+        × (size_of run.kind < 65536) }
+    ensures { Replied reply.old reply.new result station (flags_text m run.kind run.start run.count area.now) }
 {
-    let end = put_head(reply, m, start, count);
-    let run = run_in(area, k, start, count);
-    put_flags(reply, end, run);
-    close_reply(reply, station, end - 3 + 2 * run.len().div_ceil(8))
+    let end = put_head(reply, m, run.start, run.count);
+    let flags = run.part(area);
+    put_flags(reply, end, flags);
+    close_reply(reply, station, end - 3 + 2 * flags.len().div_ceil(8))
 }
