@@ -176,6 +176,7 @@ impl Run {
     }
 
     // The part of its area where it stands.
+    #[tactic(auto, unfolding(crate::specs::Kinds::run_of))]
     pub fn part(self, area: &[u8]) -> &[u8]
         requires { (self.kind.first ≤ self.start) × (place_of self.kind self.start + self.count * self.kind.unit ≤ length area.now) }
         ensures value { result.now ≡ run_of self.kind self.start self.count area.now }
