@@ -42,11 +42,6 @@ pub back_first : (a : Areas) → back_refusal_of a ≡ first_of (back_rows (leng
 unfolding back_refusal_of
 back_first a = refl
 
--- the number, as the code has it of the areas that it reads
-pub refused_as : {a : Areas} {l : Lengths} {n : ℕ} (b : Areas) → n ≡ first_of (back_rows l b.points b.journal b.kept) → l ≡ lengths_of b → b ≡ a
-    → n ≡ back_refusal_of a
-refused_as b e l f = e ∙ ap (λ (x : Lengths). first_of (back_rows x b.points b.journal b.kept)) l ∙ sym (back_first b) ∙ ap back_refusal_of f
-
 -- the step back's tests, passed
 pub record CanStepBack (a : Areas) : Type 0 where
   pub points : Points (length a.points)

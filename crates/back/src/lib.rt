@@ -65,9 +65,8 @@ pub fn step_back(areas: &mut Areas<'_, '_>) -> Result<(), Refusal>
     ensures same_lent { SameLent areas.new areas.old }
 {
     let read = areas.read();
-    let lengths = read.lengths();
-    back_refusal(lengths, read.points, read.journal, read.kept)?;
-    let held = held_in(lengths);
+    back_refusal(read)?;
+    let held = held_in(read.lengths());
     let used = areas.kept.used;
     let journal = take(&mut areas.journal);
     let last = find_last(journal, used, held);

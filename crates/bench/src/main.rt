@@ -4,7 +4,7 @@
 ghost use Rattle.std.specs.Prelude.{OnErr, ◌≡◌, ◌+◌, ◌≤◌, length, IfOk, IfSome};
 
 use axes::read_axes;
-use calls::{Areas, Kept, Settings};
+use calls::{Areas, Kept, Sent, Settings};
 use finder::{Found, find, frame_in};
 use kinds::Firsts;
 use link::answer;
@@ -28,7 +28,12 @@ const FIRSTS: Firsts = Firsts {
 // One frame answered, with axis records of zeros.
 fn serve(rt: &impl Print, frame: &[u8], areas: &mut Areas<'_, '_>) -> io::Result<()> {
     let mut reply = [0; 1024];
-    let answered = answer(frame, areas, read_axes(&[0; 72]), SETTINGS, &mut reply);
+    let sent = Sent {
+        frame,
+        axes: read_axes(&[0; 72]),
+        settings: SETTINGS,
+    };
+    let answered = answer(sent, areas, &mut reply);
     if let Some(text) = reply.get(..answered.length) {
         rt.write_all(text)?;
     }

@@ -10,7 +10,7 @@ ghost use Rattle.board.specs.Calls.{Receives, settings_of, kept_of, firsts_of, C
 
 use axes::read_axes;
 use back::step_back;
-use calls::{Areas, AreasRead, Kept, Settings, sum_code};
+use calls::{Areas, AreasRead, Kept, Sent, Settings, sum_code};
 use finder::{Found, find, frame_in};
 use kinds::Firsts;
 use link::{act, check};
@@ -104,12 +104,12 @@ pub fn cabinet_check(
         kept: Kept { used, effective },
         firsts,
     };
-    let checked = check(
+    let sent = Sent {
         frame,
-        areas,
-        read_axes(axes),
-        settings_by(fitted, station, release, unchecked),
-    );
+        axes: read_axes(axes),
+        settings: settings_by(fitted, station, release, unchecked),
+    };
+    let checked = check(sent, areas);
     let asked = checked.asked;
     let told = checked.sum;
     let shown = show(asked);
@@ -167,7 +167,12 @@ pub fn cabinet_act(
         kept,
         firsts,
     };
-    let answered = act(frame, &mut areas, read_axes(axes), settings, reply);
+    let sent = Sent {
+        frame,
+        axes: read_axes(axes),
+        settings,
+    };
+    let answered = act(sent, &mut areas, reply);
     let after = answered.kept;
     let told = answered.sum;
     *used = after.used;

@@ -1,14 +1,22 @@
--- The areas as a host lends them, as the record that all is stated of, and that what was lent is the same as before.
-use Rattle.std.specs.Prelude.{◌≡◌}
-use Rattle.calls.specs.Calls.{Areas, areas_of}
+-- What a host lends, as the records that all is stated of, and that what was lent is the same as before.
+use Rattle.std.specs.Prelude.{ℕ, ◌≡◌, List}
+use Rattle.calls.specs.Calls.{Areas, Sent, Call, areas_of, sent_of, call_of}
 use Rattle.calls.specs.declared.Areas.{Areas as LentAreas}
 use Rattle.calls.specs.declared.AreasRead.{AreasRead}
+use Rattle.calls.specs.declared.Sent.{Sent as SentLent}
 
 abbrev pub areas_in : LentAreas → Areas
 areas_in a = areas_of a.points.now a.columns.now a.integers.now a.flags.now a.journal.now a.kept a.firsts
 
 abbrev pub areas_read : AreasRead → Areas
 areas_read a = areas_of a.points.now a.columns.now a.integers.now a.flags.now a.journal.now a.kept a.firsts
+
+-- what is handed over with a frame, with the reply area's bytes, and the call that it makes with areas
+abbrev pub sent_in : SentLent → List ℕ → Sent
+sent_in s reply = sent_of s.frame.now s.axes s.settings reply
+
+abbrev pub call_in : SentLent → List ℕ → Areas → Call
+call_in s reply a = call_of s.frame.now s.axes s.settings reply a
 
 -- a function leaves what it says in the slices that its caller lent, and the first numbers as they were
 abbrev pub SameLent : LentAreas → LentAreas → Type 0

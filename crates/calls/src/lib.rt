@@ -6,6 +6,7 @@ ghost use Rattle.std.specs.Prelude.{◌≡◌};
 ghost use Rattle.calls.specs.Calls.{sum_code, lengths_of};
 ghost use Rattle.calls.specs.Lent.{areas_in, areas_read};
 
+use axes::Axes;
 use frames::checks::Sum;
 use kinds::{Firsts, Lengths};
 
@@ -17,6 +18,14 @@ pub struct Settings {
     pub release: u8,
     pub unchecked: bool,
     pub fitted: u8,
+}
+
+// A frame, any bytes, with what is handed over beside it, but for the areas and the reply's area.
+#[derive(Clone, Copy)]
+pub struct Sent<'a> {
+    pub frame: &'a [u8],
+    pub axes: Axes,
+    pub settings: Settings,
 }
 
 // What is handed on from call to call: the journal's used length, and the number of effective points (document 02, b).

@@ -7,7 +7,7 @@ ghost use Rattle.calls.specs.Lent.{areas_in, SameLent};
 ghost use Rattle.link.specs.Contract.{given_by, Answers};
 
 use axes::{AxisRecord, axes_of};
-use calls::{Areas, Settings};
+use calls::{Areas, Sent, Settings};
 use link::{Answered, answer};
 
 // The answer to a frame, with any count of axis records.
@@ -21,5 +21,10 @@ pub fn answer_lent(
     ensures answers { Answers (call_of frame.now (lent_axes records.now) settings reply.old (areas_in areas.old)) (given_by result) (areas_in areas.new) reply.new }
     ensures same_lent { SameLent areas.new areas.old }
 {
-    answer(frame, areas, axes_of(records), settings, reply)
+    let sent = Sent {
+        frame,
+        axes: axes_of(records),
+        settings,
+    };
+    answer(sent, areas, reply)
 }

@@ -20,7 +20,7 @@ use Rattle.frames.specs.declared.checks.Sum.{Sum}
 use Rattle.calls.specs.Calls.{Areas, Call, Outcome, call_of, lengths_of, unanswered}
 use Rattle.calls.proofs.Parts.{equal_parts}
 use Rattle.refusals.specs.Refusals.{too_short, late, silent_of, told_after, told_of, early, check_early, check_silent_of, check_told_of}
-use Rattle.refusals.proofs.Rows.{passed, checked_rows, told_untested}
+use Rattle.refusals.proofs.Rows.{passed, check_silent_is, told_untested}
 use Rattle.refusals.proofs.Tested.{shaped_long, sound}
 use Rattle.orders.specs.declared.Order as order
 use Rattle.link.specs.Answer.{held, asked, text_of, areas_after, answer_of}
@@ -28,10 +28,6 @@ use Rattle.link.specs.Check.{Looked, check_of, refused_text, act_text, act_of}
 use Rattle.link.specs.Contract.{GivenBack, Heard, Gives, Acts}
 use Rattle.link.proofs.Answering.{silent_answer, heard_answer, silent_number_lem}
 use Rattle.link.proofs.Outcomes.{handing_on, gives_by}
-
-pub check_first : (c : Call) → check_silent_of c ≡ first_of (check_early c ++ late c)
-unfolding check_silent_of
-check_first c = refl
 
 -- what a check answers: a refusal without a reply, or what the frame asks
 pub checked_silent : (c : Call) (k : ℕ) (t : Option Sum) → k ≡ check_silent_of c → t ≡ check_told_of c → (k ≡ 0 → ⊥) → record { asked = Refused k; sum = t } ≡ check_of c
@@ -51,9 +47,7 @@ pub fits : (c : Call) → check_silent_of c ≡ 0 → Fits c
 fits c e =
     let p =
     (passed 1024 c.sent.frame c.sent.axes c.sent.settings (lengths_of c.areas) c.areas.journal c.areas.kept c.areas.points
-    (sym (checked_rows c.sent.frame c.sent.axes c.sent.settings (lengths_of c.areas) c.areas.journal c.areas.kept c.areas.points)
-    ∙ sym (check_first c)
-    ∙ e)
+    (sym (check_silent_is c) ∙ e)
     ).0.early in
     record {
       frame_long = shaped_long c.sent.frame p.shape;

@@ -3,14 +3,12 @@
 
 ghost use Rattle.std.specs.Prelude.{◌≡◌, [], ◌≤◌, length, Err};
 ghost use Rattle.digits.specs.Laid.{laid};
-ghost use Rattle.calls.specs.Calls.{call_of};
-ghost use Rattle.calls.specs.Lent.{areas_in, areas_read, SameLent};
+ghost use Rattle.calls.specs.Lent.{areas_in, areas_read, call_in, SameLent};
 ghost use Rattle.messages.specs.Refusal.{refusal_number};
 ghost use Rattle.link.specs.Check.{check_of, checked_by, refused_text};
 ghost use Rattle.link.specs.Contract.{Heard, accepted, given_by, Answers, Acts, Performs};
 
-use axes::Axes;
-use calls::{Areas, AreasRead, Kept, Settings};
+use calls::{Areas, AreasRead, Kept, Sent};
 use frames::checks::Sum;
 use frames::replies::error_reply;
 use kinds::{Kind, held_in};
@@ -68,78 +66,26 @@ fn refuse(reply: &mut [u8], station: u8, refusal: Refusal, kept: Kept, sum: Opti
 }
 
 // An order carried out in the area of the message's kind; a message that asks of no kind is handed the last one, and leaves it.
-fn perform(
-    order: Order,
-    frame: &[u8],
-    areas: &mut Areas<'_, '_>,
-    axes: Axes,
-    settings: Settings,
-    reply: &mut [u8],
-) -> Done
-    requires { Heard (call_of frame.now axes settings reply.old (areas_in areas.old)) order }
-    ensures performs { Performs (call_of frame.now axes settings reply.old (areas_in areas.old)) result
+fn perform(order: Order, sent: Sent<'_>, areas: &mut Areas<'_, '_>, reply: &mut [u8]) -> Done
+    requires { Heard (call_in sent reply.old (areas_in areas.old)) order }
+    ensures performs { Performs (call_in sent.entry reply.old (areas_in areas.old)) result
         (record (areas_in areas.new) { kept = result.kept }) reply.new }
     ensures same_lent { SameLent areas.new areas.old }
 {
     let kept = areas.kept;
     match order.message.tag {
-        Kind::POINTS => carry_out(
-            order,
-            frame,
-            areas.points,
-            areas.journal,
-            kept,
-            axes,
-            settings,
-            reply,
-        ),
-        Kind::COLUMNS => carry_out(
-            order,
-            frame,
-            areas.columns,
-            areas.journal,
-            kept,
-            axes,
-            settings,
-            reply,
-        ),
-        Kind::INTEGERS => carry_out(
-            order,
-            frame,
-            areas.integers,
-            areas.journal,
-            kept,
-            axes,
-            settings,
-            reply,
-        ),
-        _ => carry_out(
-            order,
-            frame,
-            areas.flags,
-            areas.journal,
-            kept,
-            axes,
-            settings,
-            reply,
-        ),
+        Kind::POINTS => carry_out(order, sent, areas.points, areas.journal, kept, reply),
+        Kind::COLUMNS => carry_out(order, sent, areas.columns, areas.journal, kept, reply),
+        Kind::INTEGERS => carry_out(order, sent, areas.integers, areas.journal, kept, reply),
+        _ => carry_out(order, sent, areas.flags, areas.journal, kept, reply),
     }
 }
 
 // The first half of an answer: the refusal, never 1, or what would be done. Everything is only read, and there is no reply area.
-pub fn check(frame: &[u8], areas: AreasRead<'_>, axes: Axes, settings: Settings) -> Checked
-    ensures { checked_by result ≡ check_of (call_of frame.now axes settings [] (areas_read areas.entry)) }
+pub fn check(sent: Sent<'_>, areas: AreasRead<'_>) -> Checked
+    ensures { checked_by result ≡ check_of (call_in sent.entry [] (areas_read areas.entry)) }
 {
-    let lengths = areas.lengths();
-    let hearing = silent(
-        frame,
-        axes,
-        settings,
-        lengths,
-        areas.points,
-        areas.journal,
-        areas.kept,
-    );
+    let hearing = silent(sent, areas);
     let sum = hearing.sum;
     if let Err(refusal) = hearing.passed {
         return Checked {
@@ -147,23 +93,18 @@ pub fn check(frame: &[u8], areas: AreasRead<'_>, axes: Axes, settings: Settings)
             sum,
         };
     }
-    let held = held_in(lengths);
+    let held = held_in(areas.lengths());
+    let settings = sent.settings;
     Checked {
-        asked: judge(frame, held, settings.fitted, settings.release),
+        asked: judge(sent.frame, held, settings.fitted, settings.release),
         sum,
     }
 }
 
 // The second half: checks again, by the same rules, and does it, with the reply.
 #[tactic(auto, using(crate::proofs::Checking::acted_short))]
-pub fn act(
-    frame: &[u8],
-    areas: &mut Areas<'_, '_>,
-    axes: Axes,
-    settings: Settings,
-    reply: &mut [u8],
-) -> Answered
-    ensures acts { Acts (call_of frame.now axes settings reply.old (areas_in areas.old)) (given_by result) (areas_in areas.new) reply.new }
+pub fn act(sent: Sent<'_>, areas: &mut Areas<'_, '_>, reply: &mut [u8]) -> Answered
+    ensures acts { Acts (call_in sent.entry reply.old (areas_in areas.old)) (given_by result) (areas_in areas.new) reply.new }
     ensures same_lent { SameLent areas.new areas.old }
 {
     let kept = areas.kept;
@@ -175,10 +116,10 @@ pub fn act(
             sum: None,
         };
     }
-    let checked = check(frame, areas.read(), axes, settings);
+    let checked = check(sent, areas.read());
     let sum = checked.sum;
     match checked.asked {
-        Err(refusal) => refuse(reply, settings.station, refusal, kept, sum),
+        Err(refusal) => refuse(reply, sent.settings.station, refusal, kept, sum),
         Ok(request) => {
             let order = Order {
                 message: request.message,
@@ -186,7 +127,7 @@ pub fn act(
                 count: request.count,
                 held: held_in(areas.read().lengths()),
             };
-            let done = perform(order, frame, areas, axes, settings, reply);
+            let done = perform(order, sent, areas, reply);
             areas.kept = done.kept;
             accept(done, sum)
         }
@@ -194,15 +135,9 @@ pub fn act(
 }
 
 // The answer to a frame, check and act in one: any bytes, any areas, any lengths.
-pub fn answer(
-    frame: &[u8],
-    areas: &mut Areas<'_, '_>,
-    axes: Axes,
-    settings: Settings,
-    reply: &mut [u8],
-) -> Answered
-    ensures answers { Answers (call_of frame.now axes settings reply.old (areas_in areas.old)) (given_by result) (areas_in areas.new) reply.new }
+pub fn answer(sent: Sent<'_>, areas: &mut Areas<'_, '_>, reply: &mut [u8]) -> Answered
+    ensures answers { Answers (call_in sent.entry reply.old (areas_in areas.old)) (given_by result) (areas_in areas.new) reply.new }
     ensures same_lent { SameLent areas.new areas.old }
 {
-    act(frame, areas, axes, settings, reply)
+    act(sent, areas, reply)
 }

@@ -5,13 +5,13 @@ ghost use Rattle.std.specs.Prelude.{◌≡◌, true, ◌≤◌, length};
 ghost use Rattle.frames.specs.Frame.{content_in};
 ghost use Rattle.kinds.specs.Kinds.{Sound};
 ghost use Rattle.table.specs.Table.{fields_of, rest_in, Narrow};
-ghost use Rattle.calls.specs.Calls.{sent_of};
+ghost use Rattle.calls.specs.Lent.{sent_in};
 ghost use Rattle.refusals.specs.Refusals.{count_fits, journal_fits};
 ghost use Rattle.orders.specs.Orders.{writes};
 ghost use Rattle.orders.specs.Contract.{Ordered, Says, Stores, Within, count_named, count_left};
 
-use axes::{Axes, records_of};
-use calls::{Kept, Settings};
+use axes::records_of;
+use calls::{Kept, Sent};
 use contents::content;
 use heads::{reply_flags, reply_head, reply_run};
 use kinds::Held;
@@ -47,25 +47,17 @@ fn rest_of(m: Message, frame: &[u8]) -> &[u8]
 }
 
 // What a message has the board say. The reply's length.
-fn say(
-    order: Order,
-    frame: &[u8],
-    area: &[u8],
-    kept: Kept,
-    axes: Axes,
-    settings: Settings,
-    reply: &mut [u8],
-) -> usize
-    requires { Ordered order frame.now area.now × (1024 ≤ length reply.old) }
-    ensures { Says order (sent_of frame.now axes settings reply.old) kept area.now result reply.new }
+fn say(order: Order, sent: Sent<'_>, area: &[u8], kept: Kept, reply: &mut [u8]) -> usize
+    requires { Ordered order sent.frame.now area.now × (1024 ≤ length reply.old) }
+    ensures { Says order (sent_in sent.entry reply.old) kept area.now result reply.new }
 {
     let m = order.message;
     let held = order.held;
     let start = order.start;
     let count = order.count;
-    let station = settings.station;
+    let station = sent.settings.station;
     let k = held.kind(m.tag);
-    let rest = rest_of(m, frame);
+    let rest = rest_of(m, sent.frame);
     let does = m.does;
     match does {
         Action::SayBack => reply_same(reply, station, m, rest),
@@ -77,8 +69,8 @@ fn say(
         Action::ReadRun => reply_run(reply, station, m, k, area, start, count),
         Action::AxisStatus => {
             let pattern = digits::number(rest) as u8;
-            let shown = pattern & settings.fitted;
-            reply_axes(reply, station, m, shown, records_of(axes))
+            let shown = pattern & sent.settings.fitted;
+            reply_axes(reply, station, m, shown, records_of(sent.axes))
         }
         Action::WritePoints => reply_head(reply, station, m, start, count),
         Action::ClearRun => reply_head(reply, station, m, start, count),
@@ -141,24 +133,22 @@ fn count_named(order: Order, area: &[u8]) -> usize
 // are then.
 pub fn carry_out(
     order: Order,
-    frame: &[u8],
+    sent: Sent<'_>,
     area: &mut [u8],
     journal: &mut [u8],
     kept: Kept,
-    axes: Axes,
-    settings: Settings,
     reply: &mut [u8],
 ) -> Done
-    requires { Ordered order frame.now area.old × (1024 ≤ length reply.old) × (journal_fits order.held journal.old kept.used ≡ true)
+    requires { Ordered order sent.frame.now area.old × (1024 ≤ length reply.old) × (journal_fits order.held journal.old kept.used ≡ true)
         × (count_fits order.message.does area.old kept.effective ≡ true) }
-    ensures says { Says order (sent_of frame.now axes settings reply.old) kept area.old result.length reply.new }
-    ensures stores { Stores order frame.now area.old area.new
+    ensures says { Says order (sent_in sent.entry reply.old) kept area.old result.length reply.new }
+    ensures stores { Stores order sent.entry.frame.now area.old area.new
         journal.old journal.new kept.used result.kept.used }
     ensures effective_value { result.kept.effective ≡ count_left order area.new kept.effective }
 {
-    let length = say(order, frame, area, kept, axes, settings, reply);
+    let length = say(order, sent, area, kept, reply);
     let before = count_named(order, area);
-    let used = store(order, frame, area, journal, kept.used);
+    let used = store(order, sent.frame, area, journal, kept.used);
     let after = count_named(order, area);
     let others = kept.effective - before;
     let effective = others + after;

@@ -1,9 +1,9 @@
 -- The rows that each call tests, as choices over truth values.
 use Prim.Native.Nat.{ℕ, ◌≤◌, ◌<◌}
-use mathlib.Core.Path.{◌≡◌, refl, sym, ap₂, ◌∙◌}
+use mathlib.Core.Path.{◌≡◌, refl, sym, ap, ap₂, ◌∙◌}
 use mathlib.Core.Bool.{Bool, true, false, cond, not, ◌&&◌}
 use mathlib.Core.Logic.{◌⊎◌, inl, inr}
-use mathlib.Core.List.{List, ◌∷◌, ◌++◌}
+use mathlib.Core.List.{List, [], ◌∷◌, ◌++◌}
 use native.Mathlib.Omega.{arith}
 use lib.Dec.{ltb, eqb}
 use lib.ListN.{length}
@@ -11,7 +11,7 @@ use borrow.Author.Tests.{eq-eqb, ne_eqb}
 use Rattle.digits.proofs.Bools.{was_not}
 use Rattle.frames.specs.declared.checks.Sum.{Sum}
 use Rattle.frames.specs.Frame.{content_in, shaped, sum_said, is_off, is_wrong, station_passes}
-use Rattle.messages.specs.Rows.{◌when◌, first_of}
+use Rattle.messages.specs.Rows.{Row, ◌when◌, first_of}
 use Rattle.table.specs.Table.{message_of}
 use Rattle.messages.specs.Asked.{asked_rows}
 use Rattle.axes.specs.Records.{Axes}
@@ -20,9 +20,12 @@ use Rattle.calls.specs.declared.Kept.{Kept}
 use Rattle.std.specs.Prelude.{None, Some}
 use Rattle.kinds.specs.declared.Lengths.{Lengths}
 use Rattle.kinds.specs.Kinds.{held_in}
-use Rattle.calls.specs.Calls.{Call, lengths_of}
+use Rattle.calls.specs.Calls.{Areas, Call, lengths_of}
+use Rattle.calls.specs.declared.AreasRead.{AreasRead}
+use Rattle.calls.specs.declared.Sent.{Sent as SentLent}
+use Rattle.calls.specs.Lent.{areas_read, call_in}
 use Rattle.refusals.proofs.Tested.{shaped_long}
-use Rattle.refusals.specs.Refusals.{points_fit, variables_fit, journal_fits, axes_fit, release_fits, count_true, miscounted, area_rows, check_rows, late_rows, count_rows, rows_from_sum, too_short, silent_of, early, told_after, told_of, refusal_of, back_rows}
+use Rattle.refusals.specs.Refusals.{points_fit, variables_fit, journal_fits, axes_fit, release_fits, count_true, miscounted, area_rows, check_rows, late_rows, count_rows, rows_from_sum, too_short, silent_of, check_early, early, late, told_after, told_of, check_silent_of, refusal_of, back_rows, back_refusal_of}
 
 -- the areas' four, in the order tested, and what comes behind them
 abbrev pub four : Bool → Bool → Bool → Bool → ℕ → ℕ
@@ -250,11 +253,6 @@ module _ (frame : List ℕ) (axes : Axes) (settings : Settings) (lengths : Lengt
   unfolding check_rows area_rows
   check_rows_lem = refl
 
-  pub checked_rows : (points : List ℕ) → first_of (check_rows frame axes settings lengths journal kept ++ (rows_from_sum settings frame points kept))
-      ≡ silent_number 1024 frame axes settings lengths journal kept points 0
-  unfolding check_rows area_rows late_rows count_rows
-  checked_rows points = refl
-
 -- a call's rows
 abbrev pub number_of : Call → ℕ → ℕ
 number_of c =
@@ -278,6 +276,11 @@ pub silent_is : (c : Call) → silent_of c ≡ number_of c 0
 unfolding silent_of check_rows area_rows late_rows count_rows
 silent_is c = refl
 
+pub check_silent_is : (c : Call)
+    → check_silent_of c ≡ silent_number 1024 c.sent.frame c.sent.axes c.sent.settings (lengths_of c.areas) c.areas.journal c.areas.kept c.areas.points 0
+unfolding check_silent_of check_rows area_rows late_rows count_rows
+check_silent_is c = refl
+
 pub refusal_is : (c : Call)
     → refusal_of c ≡ number_of c (first_of (asked_rows (held_in (lengths_of c.areas)) c.sent.settings.fitted c.sent.settings.release (message_of c.sent.settings.release c.sent.frame) (content_in c.sent.frame)))
 unfolding refusal_of check_rows area_rows late_rows count_rows
@@ -289,96 +292,122 @@ call_passed c e =
     c.areas.points (sym (silent_is c) ∙ e)
     ).0
 
--- each return of the tests of the areas
-module _ (l : Lengths) (j : List ℕ) (kept : Kept) where
-  pub area_2 : points_fit l.points ≡ false → 2 ≡ first_of (area_rows l j kept)
-  area_2 e = sym (area_rows_lem l j kept ∙ rw e)
+-- each return of the tests of the areas, as the code reads them
+module _ (r : AreasRead) where
+  abbrev read : Areas
+  read = areas_read r
 
-  module _ (e : points_fit l.points ≡ true) where
-    pub area_3 : (l.columns ≡ 700 → ⊥) → 3 ≡ first_of (area_rows l j kept)
-    area_3 f = sym (area_rows_lem l j kept ∙ rw (e, ne_eqb _ _ f))
+  abbrev rows : List Row
+  rows = area_rows (lengths_of read) read.journal read.kept
 
-    module _ (f : l.columns ≡ 700) where
-      pub area_10 : variables_fit l.integers l.flags l.firsts ≡ false → 10 ≡ first_of (area_rows l j kept)
-      area_10 v = sym (area_rows_lem l j kept ∙ rw (e, eq-eqb _ _ f, v))
+  module _ {l : Lengths} (same : l ≡ lengths_of read) where
+    rows_are : first_of rows ≡ area_number l read.journal read.kept 0
+    rows_are = area_rows_lem (lengths_of read) read.journal read.kept ∙ sym (ap (λ (x : Lengths). area_number x read.journal read.kept 0) same)
 
-      module _ (v : variables_fit l.integers l.flags l.firsts ≡ true) where
-        pub area_4 : journal_fits (held_in l) j kept.used ≡ false → 4 ≡ first_of (area_rows l j kept)
-        area_4 g = sym (area_rows_lem l j kept ∙ rw (e, eq-eqb _ _ f, v, g))
+    pub area_2 : points_fit l.points ≡ false → 2 ≡ first_of rows
+    area_2 e = sym (rows_are ∙ rw e)
 
-        pub area_0 : journal_fits (held_in l) j kept.used ≡ true → 0 ≡ first_of (area_rows l j kept)
-        area_0 g = sym (area_rows_lem l j kept ∙ rw (e, eq-eqb _ _ f, v, g))
+    module _ (e : points_fit l.points ≡ true) where
+      pub area_3 : (l.columns ≡ 700 → ⊥) → 3 ≡ first_of rows
+      area_3 f = sym (rows_are ∙ rw (e, ne_eqb _ _ f))
 
-  -- no area is refused: what comes behind is looked at
-  area_past : first_of (area_rows l j kept) ≡ 0 → (k : ℕ) → area_number l j kept k ≡ k
-  area_past e k = past_areas l j kept (areas_pass l j kept (sym (area_rows_lem l j kept) ∙ e)).0 k
+      module _ (f : l.columns ≡ 700) where
+        pub area_10 : variables_fit l.integers l.flags l.firsts ≡ false → 10 ≡ first_of rows
+        area_10 v = sym (rows_are ∙ rw (e, eq-eqb _ _ f, v))
+
+        module _ (v : variables_fit l.integers l.flags l.firsts ≡ true) where
+          pub area_4 : journal_fits (held_in l) read.journal read.kept.used ≡ false → 4 ≡ first_of rows
+          area_4 g = sym (rows_are ∙ rw (e, eq-eqb _ _ f, v, g))
+
+          pub area_0 : journal_fits (held_in l) read.journal read.kept.used ≡ true → 0 ≡ first_of rows
+          area_0 g = sym (rows_are ∙ rw (e, eq-eqb _ _ f, v, g))
+
+  -- no area is refused: what comes behind is looked at, and the slots fill their area, so they can be counted
+  module _ (e : first_of rows ≡ 0) where
+    areas_passed : AreasPass (lengths_of read) read.journal read.kept
+    areas_passed = (areas_pass (lengths_of read) read.journal read.kept (sym (area_rows_lem (lengths_of read) read.journal read.kept) ∙ e)).0
+
+    area_past : (k : ℕ) → area_number (lengths_of read) read.journal read.kept k ≡ k
+    area_past k = past_areas (lengths_of read) read.journal read.kept areas_passed k
+
+    pub area_points : points_fit (length read.points) ≡ true
+    area_points = areas_passed.points
 
   -- each return of a step back's tests
-  module _ (points : List ℕ) where
-    pub back_area : {n : ℕ} → n ≡ first_of (area_rows l j kept) → (n ≡ 0 → ⊥) → n ≡ first_of (back_rows l points j kept)
-    back_area e f = e ∙ area_given l j kept _ (λ z. f (e ∙ z)) ∙ sym (back_rows_lem l j kept points)
+  pub back_area : {n : ℕ} → n ≡ first_of rows → (n ≡ 0 → ⊥) → n ≡ back_refusal_of read
+  unfolding back_refusal_of
+  back_area e f =
+      e ∙ area_given (lengths_of read) read.journal read.kept _ (λ z. f (e ∙ z))
+      ∙ sym (back_rows_lem (lengths_of read) read.journal read.kept read.points)
 
-    module _ (e : first_of (area_rows l j kept) ≡ 0) where
-      -- the slots fill their area, so they can be counted
-      pub back_points : l.points ≡ length points → points_fit (length points) ≡ true
-      back_points h = rw h at (areas_pass l j kept (sym (area_rows_lem l j kept) ∙ e)).0.points
+  module _ (e : first_of rows ≡ 0) where
+    back_behind : {k : ℕ} → own_back (lengths_of read) read.journal read.kept read.points ≡ k → k ≡ back_refusal_of read
+    unfolding back_refusal_of
+    back_behind g = sym (back_rows_lem (lengths_of read) read.journal read.kept read.points ∙ area_past e _ ∙ g)
 
-      pub back_11 : count_true points kept.effective ≡ false → 11 ≡ first_of (back_rows l points j kept)
-      back_11 t = sym (back_rows_lem l j kept points ∙ area_past e (own_back l j kept points) ∙ rw t)
+    pub back_11 : count_true read.points read.kept.effective ≡ false → 11 ≡ back_refusal_of read
+    back_11 t = back_behind (rw t)
 
-      module _ (t : count_true points kept.effective ≡ true) where
-        pub back_9 : kept.used ≡ 0 → 9 ≡ first_of (back_rows l points j kept)
-        back_9 u = sym (back_rows_lem l j kept points ∙ area_past e (own_back l j kept points) ∙ rw (t, eq-eqb _ _ u))
+    module _ (t : count_true read.points read.kept.effective ≡ true) where
+      pub back_9 : read.kept.used ≡ 0 → 9 ≡ back_refusal_of read
+      back_9 u = back_behind (rw (t, eq-eqb _ _ u))
 
-        pub back_0 : (kept.used ≡ 0 → ⊥) → 0 ≡ first_of (back_rows l points j kept)
-        back_0 u = sym (back_rows_lem l j kept points ∙ area_past e (own_back l j kept points) ∙ rw (t, ne_eqb _ _ u))
+      pub back_0 : (read.kept.used ≡ 0 → ⊥) → 0 ≡ back_refusal_of read
+      back_0 u = back_behind (rw (t, ne_eqb _ _ u))
 
-  -- each return of a frame's tests
-  module _ (frame : List ℕ) (axes : Axes) (settings : Settings) where
-    behind : (k : ℕ) → area_number l j kept (own_number axes settings frame 0) ≡ k → k ≡ first_of (check_rows frame axes settings l j kept)
-    behind k e = sym (check_rows_lem frame axes settings l j kept ∙ e)
+-- each return of a frame's tests before the sum
+module _ (s : SentLent) (r : AreasRead) where
+  abbrev call : Call
+  call = call_in s [] (areas_read r)
 
-    pub early_area : {n : ℕ} → n ≡ first_of (area_rows l j kept) → (n ≡ 0 → ⊥) → n ≡ first_of (check_rows frame axes settings l j kept)
-    early_area {n} e f = behind n (sym (e ∙ area_given l j kept _ (λ z. f (e ∙ z))))
+  abbrev own : ℕ → ℕ
+  own k = own_number call.sent.axes call.sent.settings call.sent.frame k
 
-    module _ (e : first_of (area_rows l j kept) ≡ 0) where
-      pub early_5 : axes_fit axes settings.fitted ≡ false → 5 ≡ first_of (check_rows frame axes settings l j kept)
-      early_5 f = behind 5 (area_past e _ ∙ rw f)
+  early_are : first_of (check_early call) ≡ area_number (lengths_of call.areas) call.areas.journal call.areas.kept (own 0)
+  early_are = check_rows_lem call.sent.frame call.sent.axes call.sent.settings (lengths_of call.areas) call.areas.journal call.areas.kept
 
-      module _ (f : axes_fit axes settings.fitted ≡ true) where
-        pub early_13 : release_fits settings.release ≡ false → 13 ≡ first_of (check_rows frame axes settings l j kept)
-        early_13 r = behind 13 (area_past e _ ∙ rw (f, r))
+  pub early_area : {n : ℕ} → n ≡ first_of (rows r) → (n ≡ 0 → ⊥) → n ≡ first_of (check_early call)
+  early_area {n} e f = e ∙ area_given (lengths_of call.areas) call.areas.journal call.areas.kept (own 0) (λ z. f (e ∙ z)) ∙ sym early_are
 
-        module _ (r : release_fits settings.release ≡ true) where
-          pub early_6 : shaped frame ≡ false → 6 ≡ first_of (check_rows frame axes settings l j kept)
-          early_6 s = behind 6 (area_past e _ ∙ rw (f, r, s))
+  module _ (e : first_of (rows r) ≡ 0) where
+    early_behind : {k : ℕ} → own 0 ≡ k → k ≡ first_of (check_early call)
+    early_behind g = sym (early_are ∙ area_past r e _ ∙ g)
 
-          pub early_0 : shaped frame ≡ true → 0 ≡ first_of (check_rows frame axes settings l j kept)
-          early_0 s = behind 0 (area_past e _ ∙ rw (f, r, s))
+    pub early_5 : axes_fit call.sent.axes call.sent.settings.fitted ≡ false → 5 ≡ first_of (check_early call)
+    early_5 f = early_behind (rw f)
 
-    -- behind them stand the sum, the station and the count
-    pub silent_early : (points : List ℕ) {n : ℕ} → n ≡ first_of (check_rows frame axes settings l j kept) → (n ≡ 0 → ⊥)
-        → n ≡ first_of (check_rows frame axes settings l j kept ++ (rows_from_sum settings frame points kept))
-    silent_early points e f =
-        let q = e ∙ check_rows_lem frame axes settings l j kept in
-        q ∙ sym (checked_rows frame axes settings l j kept points ∙ (early_given 1024 frame axes settings l j kept _ (λ z. f (q ∙ z))).0)
+    module _ (f : axes_fit call.sent.axes call.sent.settings.fitted ≡ true) where
+      pub early_13 : release_fits call.sent.settings.release ≡ false → 13 ≡ first_of (check_early call)
+      early_13 g = early_behind (rw (f, g))
 
-    module _ (e : first_of (check_rows frame axes settings l j kept) ≡ 0) where
-      none_early : EarlyPassed 1024 frame axes settings l j kept
-      none_early = (early_passed 1024 frame axes settings l j kept (sym (check_rows_lem frame axes settings l j kept) ∙ e)).0
+      module _ (g : release_fits call.sent.settings.release ≡ true) where
+        pub early_6 : shaped call.sent.frame ≡ false → 6 ≡ first_of (check_early call)
+        early_6 h = early_behind (rw (f, g, h))
 
-      pub silent_long : 10 ≤ length frame
-      silent_long = shaped_long frame none_early.shape
+        pub early_0 : shaped call.sent.frame ≡ true → 0 ≡ first_of (check_early call)
+        early_0 h = early_behind (rw (f, g, h))
 
-      module _ (points : List ℕ) where
-        pub silent_points : l.points ≡ length points → points_fit (length points) ≡ true
-        silent_points h = rw h at none_early.areas.points
+  -- behind them stand the sum, the station and the count
+  pub silent_early : {n : ℕ} → n ≡ first_of (check_early call) → (n ≡ 0 → ⊥) → n ≡ check_silent_of call
+  silent_early e f =
+      let q = e ∙ early_are in
+      q ∙ sym (check_silent_is call ∙ (early_given 1024 call.sent.frame call.sent.axes call.sent.settings (lengths_of call.areas) call.areas.journal call.areas.kept _ (λ z. f (q ∙ z))).0)
 
-        pub silent_late : {n : ℕ} → n ≡ first_of (rows_from_sum settings frame points kept)
-            → n ≡ first_of (check_rows frame axes settings l j kept ++ (rows_from_sum settings frame points kept))
-        silent_late g =
-            g ∙ late_rows_lem settings frame points kept
-            ∙ sym (checked_rows frame axes settings l j kept points ∙ past_early 1024 frame axes settings l j kept none_early _)
+  module _ (e : first_of (check_early call) ≡ 0) where
+    none_early : EarlyPassed 1024 call.sent.frame call.sent.axes call.sent.settings (lengths_of call.areas) call.areas.journal call.areas.kept
+    none_early =
+        (early_passed 1024 call.sent.frame call.sent.axes call.sent.settings (lengths_of call.areas) call.areas.journal call.areas.kept (sym early_are ∙ e)).0
+
+    pub silent_long : 10 ≤ length call.sent.frame
+    silent_long = shaped_long call.sent.frame none_early.shape
+
+    pub silent_points : points_fit (length call.areas.points) ≡ true
+    silent_points = none_early.areas.points
+
+    pub silent_late : {n : ℕ} → n ≡ first_of (late call) → n ≡ check_silent_of call
+    silent_late g =
+        g ∙ late_rows_lem call.sent.settings call.sent.frame call.areas.points call.areas.kept
+        ∙ sym (check_silent_is call ∙ past_early 1024 call.sent.frame call.sent.axes call.sent.settings (lengths_of call.areas) call.areas.journal call.areas.kept none_early _)
 
 -- the tests of the sum, the station and the count, by what the sum test said
 module _ (settings : Settings) (frame points : List ℕ) (kept : Kept) where

@@ -2,19 +2,21 @@
 // b: 11; f: 12; l: 13; g: a check tests them too).
 #![tactic(auto)]
 
-ghost use Rattle.std.specs.Prelude.{◌≡◌, true, cond, not, ◌++◌, ◌≤◌, length};
+ghost use Rattle.std.specs.Prelude.{◌≡◌, true, cond, not, [], ◌≤◌, length};
 ghost use Rattle.frames.specs.Frame.{sum_said};
 ghost use Rattle.kinds.specs.Kinds.{Sound};
 ghost use Rattle.table.specs.Table.{message_numbered, message_of};
+ghost use Rattle.calls.specs.Calls.{lengths_of};
+ghost use Rattle.calls.specs.Lent.{areas_read, call_in};
 ghost use Rattle.messages.specs.Refusal.{number_by};
 ghost use Rattle.messages.specs.Rows.{first_of};
-ghost use Rattle.refusals.specs.Refusals.{points_fit, variables_fit, journal_fits, records_fit, axes_fit, release_fits, count_true, miscounted, area_rows, check_rows, rows_from_sum, told_after, back_rows};
+ghost use Rattle.refusals.specs.Refusals.{points_fit, variables_fit, journal_fits, records_fit, axes_fit, release_fits, count_true, miscounted, area_rows, rows_from_sum, check_early, check_silent_of, check_told_of, back_refusal_of};
 
 use axes::{Axes, AxisRecord};
-use calls::{Kept, Settings};
+use calls::{AreasRead, Sent};
 use frames::checks::{Sum, is_ours, is_shaped, test_sum};
 use journal::is_whole;
-use kinds::{Firsts, Held, Lengths, held_in};
+use kinds::{Firsts, Held, held_in};
 use messages::refusal::Refusal;
 use points::point::Point;
 use slots::count_effective;
@@ -81,9 +83,10 @@ fn fits_axes(axes: Axes, fitted: u8) -> bool
 }
 
 // Tests 2, 3, 10 and 4, of a frame and of a step back.
-fn test_areas(lengths: Lengths, journal: &[u8], kept: Kept) -> Result<(), Refusal>
-    ensures { number_by result ≡ first_of (area_rows lengths journal.now kept) }
+fn test_areas(areas: AreasRead<'_>) -> Result<(), Refusal>
+    ensures { number_by result ≡ first_of (area_rows (lengths_of (areas_read areas.entry)) areas.entry.journal.now areas.entry.kept) }
 {
+    let lengths = areas.lengths();
     if !fits_points(lengths.points) {
         return Err(Refusal::PointsArea);
     }
@@ -93,7 +96,7 @@ fn test_areas(lengths: Lengths, journal: &[u8], kept: Kept) -> Result<(), Refusa
     if !fits_variables(lengths.integers, lengths.flags, lengths.firsts) {
         return Err(Refusal::VariableAreas);
     }
-    if !fits_journal(journal, kept.used, held_in(lengths)) {
+    if !fits_journal(areas.journal, areas.kept.used, held_in(lengths)) {
         return Err(Refusal::JournalArea);
     }
     Ok(())
@@ -140,98 +143,73 @@ fn test_count(release: u8, frame: &[u8], points: &[u8], effective: usize) -> Res
 }
 
 // Tests 12, 7 and 8, by what the sum test said, and 11.
-fn test_late(
-    sum: Sum,
-    settings: Settings,
-    frame: &[u8],
-    points: &[u8],
-    kept: Kept,
-) -> Result<(), Refusal>
-    requires { (10 ≤ length frame.now) × (sum ≡ sum_said settings.release frame.now) × (points_fit (length points.now) ≡ true) }
-    ensures { number_by result ≡ first_of (rows_from_sum settings frame.now points.now kept) }
+fn test_late(sum: Sum, sent: Sent<'_>, areas: AreasRead<'_>) -> Result<(), Refusal>
+    requires { (10 ≤ length sent.frame.now) × (sum ≡ sum_said sent.settings.release sent.frame.now) × (points_fit (length areas.points.now) ≡ true) }
+    ensures { number_by result ≡ first_of (rows_from_sum sent.entry.settings sent.entry.frame.now areas.entry.points.now areas.entry.kept) }
 {
+    let settings = sent.settings;
     match sum {
         Sum::True => {}
         Sum::SwitchedOff if settings.unchecked => {}
         Sum::SwitchedOff => return Err(Refusal::SumSwitchedOff),
         Sum::Wrong => return Err(Refusal::WrongSum),
     }
-    if !is_ours(settings.release, settings.station, frame) {
+    if !is_ours(settings.release, settings.station, sent.frame) {
         return Err(Refusal::OtherStation);
     }
-    test_count(settings.release, frame, points, kept.effective)
+    test_count(
+        settings.release,
+        sent.frame,
+        areas.points,
+        areas.kept.effective,
+    )
 }
 
 // Tests 2 to 6, 10 and 13.
-fn test_early(
-    frame: &[u8],
-    axes: Axes,
-    settings: Settings,
-    lengths: Lengths,
-    journal: &[u8],
-    kept: Kept,
-) -> Result<(), Refusal>
-    ensures { number_by result ≡ first_of (check_rows frame.now axes settings lengths journal.now kept) }
+fn test_early(sent: Sent<'_>, areas: AreasRead<'_>) -> Result<(), Refusal>
+    ensures { number_by result ≡ first_of (check_early (call_in sent.entry [] (areas_read areas.entry))) }
 {
-    test_areas(lengths, journal, kept)?;
-    if !fits_axes(axes, settings.fitted) {
+    test_areas(areas)?;
+    if !fits_axes(sent.axes, sent.settings.fitted) {
         return Err(Refusal::AxisRecords);
     }
-    if !fits_release(settings.release) {
+    if !fits_release(sent.settings.release) {
         return Err(Refusal::Release);
     }
-    if !is_shaped(frame) {
+    if !is_shaped(sent.frame) {
         return Err(Refusal::Shape);
     }
     Ok(())
 }
 
 // Whether the refusals without a reply are passed, 2 to 8 and 10 to 13, and what is told of the sum; 1 is tested where there is a reply area, before all this.
-pub fn silent(
-    frame: &[u8],
-    axes: Axes,
-    settings: Settings,
-    lengths: Lengths,
-    points: &[u8],
-    journal: &[u8],
-    kept: Kept,
-) -> Hearing
-    requires { lengths.points ≡ length points.now }
-    ensures number_value { number_by result.passed
-        ≡ first_of (check_rows frame.now axes settings lengths journal.now kept
-        ++ rows_from_sum settings frame.now points.now kept) }
-    ensures sum_value { result.sum
-        ≡ told_after (first_of (check_rows frame.now axes settings lengths journal.now kept)) settings.release frame.now }
+pub fn silent(sent: Sent<'_>, areas: AreasRead<'_>) -> Hearing
+    ensures number_value { number_by result.passed ≡ check_silent_of (call_in sent.entry [] (areas_read areas.entry)) }
+    ensures sum_value { result.sum ≡ check_told_of (call_in sent.entry [] (areas_read areas.entry)) }
 {
-    if let Err(refusal) = test_early(frame, axes, settings, lengths, journal, kept) {
+    if let Err(refusal) = test_early(sent, areas) {
         return Hearing {
             passed: Err(refusal),
             sum: None,
         };
     }
-    let sum = test_sum(settings.release, frame);
+    let sum = test_sum(sent.settings.release, sent.frame);
     Hearing {
-        passed: test_late(sum, settings, frame, points, kept),
+        passed: test_late(sum, sent, areas),
         sum: Some(sum),
     }
 }
 
 // The step back's tests: 2, 3, 10, 4, 11, then 9.
 #[tactic(auto, using(crate::proofs::Rows::back_9))]
-pub fn back_refusal(
-    lengths: Lengths,
-    points: &[u8],
-    journal: &[u8],
-    kept: Kept,
-) -> Result<(), Refusal>
-    requires { lengths.points ≡ length points.now }
-    ensures { number_by result ≡ first_of (back_rows lengths points.now journal.now kept) }
+pub fn back_refusal(areas: AreasRead<'_>) -> Result<(), Refusal>
+    ensures { number_by result ≡ back_refusal_of (areas_read areas.entry) }
 {
-    test_areas(lengths, journal, kept)?;
-    if !is_count_true(points, kept.effective) {
+    test_areas(areas)?;
+    if !is_count_true(areas.points, areas.kept.effective) {
         return Err(Refusal::KeptCount);
     }
-    if kept.used == 0 {
+    if areas.kept.used == 0 {
         return Err(Refusal::NothingToStepBack);
     }
     Ok(())

@@ -3,9 +3,9 @@
 
 ghost use Rattle.std.specs.Prelude.{OnErr, ◌≡◌, ◌≤◌, ◌<◌, length, IfOk, IfSome};
 
-use axes::{Axes, read_axes};
+use axes::read_axes;
 use back::step_back;
-use calls::{Areas, AreasRead, Kept, Settings, sum_code};
+use calls::{Areas, AreasRead, Kept, Sent, Settings, sum_code};
 use finder::{Found, find, frame_in};
 use kinds::Firsts;
 use lent::answer_lent;
@@ -119,17 +119,11 @@ fn say_areas(rt: &impl Print, areas: AreasRead<'_>) -> io::Result<()> {
 }
 
 // A frame answered; the records go as a lent run where there are eight of them.
-fn answer_to(
-    frame: &[u8],
-    areas: &mut Areas<'_, '_>,
-    axes: Axes,
-    settings: Settings,
-    reply: &mut [u8],
-) -> Answered {
-    if let Some(records) = axes {
-        return answer_lent(frame, areas, &records, settings, reply);
+fn answer_to(sent: Sent<'_>, areas: &mut Areas<'_, '_>, reply: &mut [u8]) -> Answered {
+    if let Some(records) = sent.axes {
+        return answer_lent(sent.frame, areas, &records, sent.settings, reply);
     }
-    answer(frame, areas, axes, settings, reply)
+    answer(sent, areas, reply)
 }
 
 // 'C': a check, on what is lent.
@@ -143,12 +137,12 @@ fn play_check(rt: &impl Print, frame: &[u8], memory: &Memory, board: Board) -> i
         kept: board.kept,
         firsts: board.firsts,
     };
-    let checked = check(
+    let sent = Sent {
         frame,
-        areas,
-        read_axes(part(&memory.axes, board.axes)),
-        board.settings,
-    );
+        axes: read_axes(part(&memory.axes, board.axes)),
+        settings: board.settings,
+    };
+    let checked = check(sent, areas);
     let sum = sum_code(checked.sum);
     let shown = show(checked.asked);
     let number = shown.number;
@@ -204,16 +198,19 @@ fn play_on(
         firsts: board.firsts,
     };
     let reply = lend(&mut memory.reply, board.reply);
-    let axes = read_axes(part(&memory.axes, board.axes));
-    let frame = frame_of(operation);
+    let sent = Sent {
+        frame: frame_of(operation),
+        axes: read_axes(part(&memory.axes, board.axes)),
+        settings: board.settings,
+    };
     match byte_at(operation, 0) {
         b'S' => play_back(rt, &mut areas)?,
         b'A' => {
-            let answered = act(frame, &mut areas, axes, board.settings, reply);
+            let answered = act(sent, &mut areas, reply);
             say_answered(rt, 'A', answered, &areas, reply)?;
         }
         _ => {
-            let answered = answer_to(frame, &mut areas, axes, board.settings, reply);
+            let answered = answer_to(sent, &mut areas, reply);
             say_answered(rt, 'F', answered, &areas, reply)?;
         }
     }

@@ -11,7 +11,7 @@ use Rattle.kinds.specs.declared.Kind.{Kind}
 use Rattle.table.specs.declared.Action.TheVariants.{SayBack, CountPoints, ListPoints, ReadRun, AxisStatus, WritePoints, ClearRun, ChangeRun, ShowFlags, SetFlag}
 use Rattle.heads.specs.Heads.{run_text, flags_text}
 use Rattle.queries.specs.Replies.{same_text, list_text, axes_text}
-use Rattle.calls.specs.Calls.{Sent, sent_of}
+use Rattle.calls.specs.Lent.{sent_in}
 use Rattle.orders.proofs.Handling as handling
 use Rattle.orders.proofs.say.Goals as goal
 
@@ -68,54 +68,44 @@ reply_head-requires-in-SetFlag c = ((handling.content c.requires.0).narrow, c.re
 
 pub returns-in-SayBack : goal.returns-in-SayBack
 returns-in-SayBack c =
-    let sent : Sent = sent_of c.args.frame.now c.args.axes c.args.settings c.args.reply.now in
-    handling.says c.requires.0 sent c.args.kept SayBack c.in-SayBack.is (ap (same_text c.args.order.message) c.rest_of-rest.ensures) c.reply_same.ensures
+    handling.says c.requires.0 (sent_in c.args.sent c.args.reply.now) c.args.kept SayBack c.in-SayBack.is (ap (same_text c.args.order.message) c.rest_of-rest.ensures) c.reply_same.ensures
 
 pub returns-in-CountPoints : goal.returns-in-CountPoints
 returns-in-CountPoints c =
-    let sent : Sent = sent_of c.args.frame.now c.args.axes c.args.settings c.args.reply.now in
-    handling.says c.requires.0 sent c.args.kept CountPoints c.in-CountPoints.is refl c.reply_count.ensures
+    handling.says c.requires.0 (sent_in c.args.sent c.args.reply.now) c.args.kept CountPoints c.in-CountPoints.is refl c.reply_count.ensures
 
 pub returns-in-ListPoints : goal.returns-in-ListPoints
 returns-in-ListPoints c =
-    let sent : Sent = sent_of c.args.frame.now c.args.axes c.args.settings c.args.reply.now in
     let d = c.in-ListPoints.is in
     let s = c.args in
     let a = handling.list_at c.requires.0 d c.kind-k.ensures c.place-at.ensures in
-    handling.says c.requires.0 sent c.args.kept ListPoints d (ap (list_text s.order.message s.order.start s.order.count) (part_rest s.area.now _ ∙ ap (λ (x : ℕ). drop x s.area.now) a)) c.reply_list.ensures
+    handling.says c.requires.0 (sent_in c.args.sent c.args.reply.now) c.args.kept ListPoints d (ap (list_text s.order.message s.order.start s.order.count) (part_rest s.area.now _ ∙ ap (λ (x : ℕ). drop x s.area.now) a)) c.reply_list.ensures
 
 pub returns-in-ReadRun : goal.returns-in-ReadRun
 returns-in-ReadRun c =
-    let sent : Sent = sent_of c.args.frame.now c.args.axes c.args.settings c.args.reply.now in
-    let s = c.args in handling.says c.requires.0 sent c.args.kept ReadRun c.in-ReadRun.is (ap (λ (k : Kind). run_text s.order.message k s.order.start s.order.count s.area.now) c.kind-k.ensures) c.reply_run.ensures
+    let s = c.args in handling.says c.requires.0 (sent_in c.args.sent c.args.reply.now) c.args.kept ReadRun c.in-ReadRun.is (ap (λ (k : Kind). run_text s.order.message k s.order.start s.order.count s.area.now) c.kind-k.ensures) c.reply_run.ensures
 
 pub returns-in-AxisStatus : goal.returns-in-AxisStatus
 returns-in-AxisStatus c =
-    let sent : Sent = sent_of c.args.frame.now c.args.axes c.args.settings c.args.reply.now in
     let s = c.args in
-    handling.says c.requires.0 sent c.args.kept AxisStatus c.in-AxisStatus.is (ap₂ (λ (n : ℕ) (rs : List AxisRecord). axes_text s.order.message (bit_and n s.settings.fitted) rs) (c.number-pattern.ensures ∙ ap number_of c.rest_of-rest.ensures) c.records_of.ensures) c.reply_axes.ensures
+    handling.says c.requires.0 (sent_in c.args.sent c.args.reply.now) c.args.kept AxisStatus c.in-AxisStatus.is (ap₂ (λ (n : ℕ) (rs : List AxisRecord). axes_text s.order.message (bit_and n s.sent.settings.fitted) rs) (c.number-pattern.ensures ∙ ap number_of c.rest_of-rest.ensures) c.records_of.ensures) c.reply_axes.ensures
 
 pub returns-in-WritePoints : goal.returns-in-WritePoints
 returns-in-WritePoints c =
-    let sent : Sent = sent_of c.args.frame.now c.args.axes c.args.settings c.args.reply.now in
-    handling.says c.requires.0 sent c.args.kept WritePoints c.in-WritePoints.is refl c.reply_head.ensures
+    handling.says c.requires.0 (sent_in c.args.sent c.args.reply.now) c.args.kept WritePoints c.in-WritePoints.is refl c.reply_head.ensures
 
 pub returns-in-ClearRun : goal.returns-in-ClearRun
 returns-in-ClearRun c =
-    let sent : Sent = sent_of c.args.frame.now c.args.axes c.args.settings c.args.reply.now in
-    handling.says c.requires.0 sent c.args.kept ClearRun c.in-ClearRun.is refl c.reply_head-in-ClearRun.ensures
+    handling.says c.requires.0 (sent_in c.args.sent c.args.reply.now) c.args.kept ClearRun c.in-ClearRun.is refl c.reply_head-in-ClearRun.ensures
 
 pub returns-in-ChangeRun : goal.returns-in-ChangeRun
 returns-in-ChangeRun c =
-    let sent : Sent = sent_of c.args.frame.now c.args.axes c.args.settings c.args.reply.now in
-    handling.says c.requires.0 sent c.args.kept ChangeRun c.in-ChangeRun.is refl c.reply_head-in-ChangeRun.ensures
+    handling.says c.requires.0 (sent_in c.args.sent c.args.reply.now) c.args.kept ChangeRun c.in-ChangeRun.is refl c.reply_head-in-ChangeRun.ensures
 
 pub returns-in-ShowFlags : goal.returns-in-ShowFlags
 returns-in-ShowFlags c =
-    let sent : Sent = sent_of c.args.frame.now c.args.axes c.args.settings c.args.reply.now in
-    let s = c.args in handling.says c.requires.0 sent c.args.kept ShowFlags c.in-ShowFlags.is (ap (λ (k : Kind). flags_text s.order.message k s.order.start s.order.count s.area.now) c.kind-k.ensures) c.reply_flags.ensures
+    let s = c.args in handling.says c.requires.0 (sent_in c.args.sent c.args.reply.now) c.args.kept ShowFlags c.in-ShowFlags.is (ap (λ (k : Kind). flags_text s.order.message k s.order.start s.order.count s.area.now) c.kind-k.ensures) c.reply_flags.ensures
 
 pub returns-in-SetFlag : goal.returns-in-SetFlag
 returns-in-SetFlag c =
-    let sent : Sent = sent_of c.args.frame.now c.args.axes c.args.settings c.args.reply.now in
-    handling.says c.requires.0 sent c.args.kept SetFlag c.in-SetFlag.is refl c.reply_head-in-SetFlag.ensures
+    handling.says c.requires.0 (sent_in c.args.sent c.args.reply.now) c.args.kept SetFlag c.in-SetFlag.is refl c.reply_head-in-SetFlag.ensures

@@ -4,32 +4,30 @@ use mathlib.Core.Path.{sym, ◌∙◌}
 use Rattle.refusals.proofs.test_areas.Goals as goal
 
 pub returns-then-not-fits_points : goal.returns-then-not-fits_points
-returns-then-not-fits_points c = let a = c.args in area_2 a.lengths a.journal.now a.kept (sym c.fits_points.ensures ∙ c.if-not-fits_points.true)
+returns-then-not-fits_points c = area_2 c.args.areas c.lengths-lengths.ensures (sym c.fits_points.ensures ∙ c.if-not-fits_points.true)
 
 pub returns-then-lengths-ne700 : goal.returns-then-lengths-ne700
-returns-then-lengths-ne700 c = let a = c.args in area_3 a.lengths a.journal.now a.kept (sym c.fits_points.ensures ∙ c.if-not-fits_points.false) c.if-lengths-ne700.true
+returns-then-lengths-ne700 c =
+    area_3 c.args.areas c.lengths-lengths.ensures (sym c.fits_points.ensures ∙ c.if-not-fits_points.false) c.if-lengths-ne700.true
 
 pub returns-then-not-fits_variables : goal.returns-then-not-fits_variables
 returns-then-not-fits_variables c =
-    let a = c.args in
-    area_10 a.lengths a.journal.now a.kept (sym c.fits_points.ensures ∙ c.if-not-fits_points.false) c.if-lengths-ne700.false
+    area_10 c.args.areas c.lengths-lengths.ensures (sym c.fits_points.ensures ∙ c.if-not-fits_points.false) c.if-lengths-ne700.false
     (sym c.fits_variables.ensures ∙ c.if-not-fits_variables.true)
 
 pub fits_journal-requires : goal.fits_journal-requires
 fits_journal-requires c =
     same_sound c.held_in.ensures
-    (sound c.args.lengths (sym c.fits_points.ensures ∙ c.if-not-fits_points.false) (sym c.fits_variables.ensures ∙ c.if-not-fits_variables.false))
+    (sound c.lengths-lengths.result (sym c.fits_points.ensures ∙ c.if-not-fits_points.false) (sym c.fits_variables.ensures ∙ c.if-not-fits_variables.false))
 
 pub returns-then-not-fits_journal : goal.returns-then-not-fits_journal
 returns-then-not-fits_journal c =
-    let a = c.args in
-    area_4 a.lengths a.journal.now a.kept (sym c.fits_points.ensures ∙ c.if-not-fits_points.false) c.if-lengths-ne700.false
+    area_4 c.args.areas c.lengths-lengths.ensures (sym c.fits_points.ensures ∙ c.if-not-fits_points.false) c.if-lengths-ne700.false
     (sym c.fits_variables.ensures ∙ c.if-not-fits_variables.false)
     (sym (same_journal _ _ c.fits_journal.ensures c.held_in.ensures) ∙ c.if-not-fits_journal.true)
 
 pub returns : goal.returns
 returns c =
-    let a = c.args in
-    area_0 a.lengths a.journal.now a.kept (sym c.fits_points.ensures ∙ c.if-not-fits_points.false) c.if-lengths-ne700.false
+    area_0 c.args.areas c.lengths-lengths.ensures (sym c.fits_points.ensures ∙ c.if-not-fits_points.false) c.if-lengths-ne700.false
     (sym c.fits_variables.ensures ∙ c.if-not-fits_variables.false)
     (sym (same_journal _ _ c.fits_journal.ensures c.held_in.ensures) ∙ c.if-not-fits_journal.false)

@@ -6,39 +6,28 @@ use Rattle.refusals.proofs.test_early.Goals as goal
 
 pub returns-in_err-test_areas : goal.returns-in_err-test_areas
 returns-in_err-test_areas c =
-    let a = c.args in
     let p = err_from_is_err_and c.from_residual.result c.from_residual.ensures.1 in
-    rw (p.1, p.2) (early_area a.lengths a.journal.now a.kept a.frame.now a.axes a.settings c.in_err-test_areas.ensures (refusal_some _))
+    rw (p.1, p.2) (early_area c.args.sent c.args.areas c.in_err-test_areas.ensures (refusal_some _))
 
 pub returns-then-not-fits_axes : goal.returns-then-not-fits_axes
-returns-then-not-fits_axes c =
-    let a = c.args in
-    early_5 a.lengths a.journal.now a.kept a.frame.now a.axes a.settings
-    (sym c.in_ok-test_areas.ensures)
-    (sym c.fits_axes.ensures ∙ c.if-not-fits_axes.true)
+returns-then-not-fits_axes c = early_5 c.args.sent c.args.areas (sym c.in_ok-test_areas.ensures) (sym c.fits_axes.ensures ∙ c.if-not-fits_axes.true)
 
 pub returns-then-not-fits_release : goal.returns-then-not-fits_release
 returns-then-not-fits_release c =
-    let a = c.args in
-    early_13 a.lengths a.journal.now a.kept a.frame.now a.axes a.settings
-    (sym c.in_ok-test_areas.ensures)
+    early_13 c.args.sent c.args.areas (sym c.in_ok-test_areas.ensures)
     (sym c.fits_axes.ensures ∙ c.if-not-fits_axes.false)
     (sym c.fits_release.ensures ∙ c.if-not-fits_release.true)
 
 pub returns-then-not-is_shaped : goal.returns-then-not-is_shaped
 returns-then-not-is_shaped c =
-    let a = c.args in
-    early_6 a.lengths a.journal.now a.kept a.frame.now a.axes a.settings
-    (sym c.in_ok-test_areas.ensures)
+    early_6 c.args.sent c.args.areas (sym c.in_ok-test_areas.ensures)
     (sym c.fits_axes.ensures ∙ c.if-not-fits_axes.false)
     (sym c.fits_release.ensures ∙ c.if-not-fits_release.false)
     (sym c.is_shaped.ensures ∙ c.if-not-is_shaped.true)
 
 pub returns : goal.returns
 returns c =
-    let a = c.args in
-    early_0 a.lengths a.journal.now a.kept a.frame.now a.axes a.settings
-    (sym c.in_ok-test_areas.ensures)
+    early_0 c.args.sent c.args.areas (sym c.in_ok-test_areas.ensures)
     (sym c.fits_axes.ensures ∙ c.if-not-fits_axes.false)
     (sym c.fits_release.ensures ∙ c.if-not-fits_release.false)
     (sym c.is_shaped.ensures ∙ c.if-not-is_shaped.false)
