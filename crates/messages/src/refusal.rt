@@ -4,7 +4,7 @@ ghost use Rattle.messages.specs.Refusal.{refusal_number};
 // Why a frame or a step back is refused, in the order of the numbers (document 01, "Refusal numbers"; document 02, a: 10 and 108; b: 11; f: 12; l: 13).
 #[derive(Clone, Copy, Debug, PartialEq, Eq)]
 pub enum Refusal {
-    ReplyArea,
+    ReplyArea = 1,
     PointsArea,
     ColumnsArea,
     JournalArea,
@@ -17,7 +17,7 @@ pub enum Refusal {
     KeptCount,
     SumSwitchedOff,
     Release,
-    UnknownMessage,
+    UnknownMessage = 101,
     NotDigits,
     ContentLength,
     ProgramNumber,
@@ -32,28 +32,6 @@ impl From<Refusal> for u16 {
     ghost from_gives = { λ refusal number. number ≡ refusal_number refusal };
 
     fn from(refusal: Refusal) -> u16 {
-        match refusal {
-            Refusal::ReplyArea => 1,
-            Refusal::PointsArea => 2,
-            Refusal::ColumnsArea => 3,
-            Refusal::JournalArea => 4,
-            Refusal::AxisRecords => 5,
-            Refusal::Shape => 6,
-            Refusal::WrongSum => 7,
-            Refusal::OtherStation => 8,
-            Refusal::NothingToStepBack => 9,
-            Refusal::VariableAreas => 10,
-            Refusal::KeptCount => 11,
-            Refusal::SumSwitchedOff => 12,
-            Refusal::Release => 13,
-            Refusal::UnknownMessage => 101,
-            Refusal::NotDigits => 102,
-            Refusal::ContentLength => 103,
-            Refusal::ProgramNumber => 104,
-            Refusal::CountZero => 105,
-            Refusal::NotHeld => 106,
-            Refusal::AxisPattern => 107,
-            Refusal::ChangeType => 108,
-        }
+        refusal as u16
     }
 }
