@@ -4,7 +4,7 @@ ghost use Rattle.messages.specs.Refusal.{refusal_number};
 // Why a frame or a step back is refused, in the order of the numbers (document 01, "Refusal numbers"; document 02, a: 10 and 108; b: 11; f: 12; l: 13).
 #[derive(Clone, Copy, Debug, PartialEq, Eq)]
 pub enum Refusal {
-    ReplyArea = 1,
+    ReplyArea,
     PointsArea,
     ColumnsArea,
     JournalArea,
@@ -17,7 +17,7 @@ pub enum Refusal {
     KeptCount,
     SumSwitchedOff,
     Release,
-    UnknownMessage = 101,
+    UnknownMessage,
     NotDigits,
     ContentLength,
     ProgramNumber,
@@ -27,11 +27,12 @@ pub enum Refusal {
     ChangeType,
 }
 
-// A refusal's number, as C and an error reply have it.
+// A refusal's number, as C and an error reply have it: 1 to 13, then 101 on. Worked out of its place, since the archive is to have no table of numbers.
 impl From<Refusal> for u16 {
     ghost from_gives = { λ refusal number. number ≡ refusal_number refusal };
 
     fn from(refusal: Refusal) -> u16 {
-        refusal as u16
+        let place = refusal as u16;
+        if place < 13 { place + 1 } else { place + 88 }
     }
 }
