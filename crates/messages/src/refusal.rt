@@ -27,34 +27,13 @@ pub enum Refusal {
     ChangeType,
 }
 
-// A refusal's number, as C and an error reply have it.
+// A refusal's number, as C and an error reply have it: 1 to 13, then 101 on. Worked out of its place, since the archive is to have no table of numbers.
 impl From<Refusal> for u16 {
     ghost from_gives = { λ refusal number. number ≡ refusal_number refusal };
 
     fn from(refusal: Refusal) -> u16 {
-        match refusal {
-            Refusal::ReplyArea => 1,
-            Refusal::PointsArea => 2,
-            Refusal::ColumnsArea => 3,
-            Refusal::JournalArea => 4,
-            Refusal::AxisRecords => 5,
-            Refusal::Shape => 6,
-            Refusal::WrongSum => 7,
-            Refusal::OtherStation => 8,
-            Refusal::NothingToStepBack => 9,
-            Refusal::VariableAreas => 10,
-            Refusal::KeptCount => 11,
-            Refusal::SumSwitchedOff => 12,
-            Refusal::Release => 13,
-            Refusal::UnknownMessage => 101,
-            Refusal::NotDigits => 102,
-            Refusal::ContentLength => 103,
-            Refusal::ProgramNumber => 104,
-            Refusal::CountZero => 105,
-            Refusal::NotHeld => 106,
-            Refusal::AxisPattern => 107,
-            Refusal::ChangeType => 108,
-        }
+        let place = refusal as u16;
+        if place < 13 { place + 1 } else { place + 88 }
     }
 }
 
