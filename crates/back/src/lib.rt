@@ -13,7 +13,7 @@ ghost use Rattle.back.specs.Back.{StepsBack, backed};
 
 use calls::Areas;
 use journal::{find_last, remove, restore};
-use kinds::{Held, Kind, held_in};
+use kinds::{Held, Kind, Run, held_in};
 use messages::refusal::Refusal;
 use refusals::back_refusal;
 use slots::count_run;
@@ -34,11 +34,12 @@ fn put_points_back(
     ensures points_after { points.new ≡ puts (points_of held) (entry_for tag start old.now) points.old }
     ensures value { result ≡ cond (eqb tag points_tag) (effective_in held.points points.new) effective }
 {
-    let k = held.kind(tag);
-    let count = old.len() / k.unit;
-    let before = count_run(points, k, start, count);
+    let kind = held.kind(tag);
+    let count = old.len() / kind.unit;
+    let run = Run { kind, start, count };
+    let before = count_run(points, run);
     restore(points, held.kind(Kind::POINTS), tag, start, old);
-    let after = count_run(points, k, start, count);
+    let after = count_run(points, run);
     let others = effective - before;
     others + after
 }

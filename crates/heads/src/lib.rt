@@ -66,6 +66,7 @@ pub fn reply_run(reply: &mut [u8], station: u8, m: Message, run: Run, area: &[u8
 }
 
 // 20DH: the head, then two digits for each eight flags begun.
+// Not one function with `reply_run` over a closure: its contract would have to say what is laid and how many digits, and each would lose two lines.
 pub fn reply_flags(reply: &mut [u8], station: u8, m: Message, run: Run, area: &[u8]) -> usize
     requires narrow { Narrow m × (1024 ≤ length reply.old) × (run.kind.first ≤ run.start) × (run.count * run.kind.unit ≤ 1000) }
     requires area_len { (length area.now ≡ size_of run.kind) × (place_of run.kind run.start + run.count * run.kind.unit ≤ size_of run.kind)

@@ -170,14 +170,6 @@ module _ {x : Order} {frame area : List ℕ} (o : Ordered x frame area) where
       go ShowFlags x = same ShowFlags (run_held x.1 x.2)
       go SetFlag x = refl
 
-  -- a 24BH names one flag
-  one_flag_lem : m.does ≡ SetFlag → count ≡ 1
-  one_flag_lem d = content.alone (shape_of d).2
-
-  pub flag_written : {k : Kind} {new area' journal journal' : List ℕ} {used left : ℕ} → m.does ≡ SetFlag
-      → Written h k start 1 new area area' journal journal' used left → Written h k start count new area area' journal journal' used left
-  flag_written d x = rw (one_flag_lem d) x
-
   -- the writes: the board can be written
   module _ {journal : List ℕ} {used : ℕ} (j : journal_fits h journal used ≡ true) where
     pub can_write : {k : Kind} → writes m.does ≡ true → k ≡ kind_of h m.tag → Ready h k start count area journal used
@@ -223,14 +215,14 @@ module _ {x : Order} {frame area : List ℕ} (o : Ordered x frame area) where
 
     -- 24BH
     pub flag_needs : {k : Kind} {t : List ℕ} → m.does ≡ SetFlag → k ≡ kind_of h m.tag → t ≡ rest_in m (content_in frame)
-        → ((k.unit ≡ 1) × (all_digits t ≡ true) × (length t ≡ 1)) × Ready h k start 1 area journal used
+        → ((k.unit ≡ 1) × (all_digits t ≡ true) × (length t ≡ 1)) × Ready h k start count area journal used
     flag_needs d f g = (
       (
         ap (λ (x : Kind). x.unit) (f ∙ ap (kind_of h) (shape_of d).0 ∙ kind_flags h),
         all_digits_lem g (rw (shape_of d).3),
         ap length g ∙ eqb-true _ _ (follows_so ChangeType (shape_of d).3),
       ),
-      rw (one_flag_lem d) at (can_write (ap writes d) f),
+      can_write (ap writes d) f,
     )
 
 -- what each message stores

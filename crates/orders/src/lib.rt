@@ -8,13 +8,13 @@ ghost use Rattle.table.specs.Table.{fields_of, rest_in, Narrow};
 ghost use Rattle.calls.specs.Lent.{sent_in};
 ghost use Rattle.refusals.specs.Refusals.{count_fits, journal_fits};
 ghost use Rattle.orders.specs.Orders.{writes};
-ghost use Rattle.orders.specs.Contract.{Ordered, Says, Stores, Within, count_named, count_left};
+ghost use Rattle.orders.specs.Contract.{kind_in, Ordered, Says, Stores, Within, count_named, count_left};
 
 use axes::records_of;
 use calls::{Kept, Sent};
 use contents::content;
 use heads::{reply_flags, reply_head, reply_run};
-use kinds::Held;
+use kinds::{Held, Run};
 use queries::{reply_axes, reply_count, reply_list, reply_same};
 use slots::count_run;
 use table::{Action, Message};
@@ -27,6 +27,19 @@ pub struct Order {
     pub start: usize,
     pub count: usize,
     pub held: Held,
+}
+
+impl Order {
+    // The run that it names.
+    fn run(self) -> Run
+        ensures { result ≡ record { kind = kind_in self; start = self.start; count = self.count } }
+    {
+        Run {
+            kind: self.held.kind(self.message.tag),
+            start: self.start,
+            count: self.count,
+        }
+    }
 }
 
 // What an order that was carried out gives: the reply's length, and what is handed on.
@@ -52,21 +65,20 @@ fn say(order: Order, sent: Sent<'_>, area: &[u8], kept: Kept, reply: &mut [u8]) 
     ensures { Says order (sent_in sent.entry reply.old) kept area.now result reply.new }
 {
     let m = order.message;
-    let held = order.held;
     let start = order.start;
     let count = order.count;
     let station = sent.settings.station;
-    let k = held.kind(m.tag);
+    let run = order.run();
     let rest = rest_of(m, sent.frame);
     let does = m.does;
     match does {
         Action::SayBack => reply_same(reply, station, m, rest),
         Action::CountPoints => reply_count(reply, station, m, kept.effective),
         Action::ListPoints => {
-            let at = k.place(start);
+            let at = run.at();
             reply_list(reply, station, m, &area[at..], start, count)
         }
-        Action::ReadRun => reply_run(reply, station, m, k, area, start, count),
+        Action::ReadRun => reply_run(reply, station, m, run, area),
         Action::AxisStatus => {
             let pattern = digits::number(rest) as u8;
             let shown = pattern & sent.settings.fitted;
@@ -75,7 +87,7 @@ fn say(order: Order, sent: Sent<'_>, area: &[u8], kept: Kept, reply: &mut [u8]) 
         Action::WritePoints => reply_head(reply, station, m, start, count),
         Action::ClearRun => reply_head(reply, station, m, start, count),
         Action::ChangeRun => reply_head(reply, station, m, start, count),
-        Action::ShowFlags => reply_flags(reply, station, m, k, area, start, count),
+        Action::ShowFlags => reply_flags(reply, station, m, run, area),
         Action::SetFlag => reply_head(reply, station, m, start, count),
     }
 }
@@ -87,9 +99,7 @@ fn store(order: Order, frame: &[u8], area: &mut [u8], journal: &mut [u8], used: 
 {
     let m = order.message;
     let held = order.held;
-    let start = order.start;
-    let count = order.count;
-    let k = held.kind(m.tag);
+    let run = order.run();
     let rest = rest_of(m, frame);
     let does = m.does;
     match does {
@@ -98,11 +108,11 @@ fn store(order: Order, frame: &[u8], area: &mut [u8], journal: &mut [u8], used: 
         Action::ListPoints => used,
         Action::ReadRun => used,
         Action::AxisStatus => used,
-        Action::WritePoints => write_points(area, journal, used, held, k, start, count, rest),
-        Action::ClearRun => clear(area, journal, used, held, k, start, count),
-        Action::ChangeRun => change(area, journal, used, held, k, start, count, rest),
+        Action::WritePoints => write_points(area, journal, used, held, run, rest),
+        Action::ClearRun => clear(area, journal, used, held, run),
+        Action::ChangeRun => change(area, journal, used, held, run, rest),
         Action::ShowFlags => used,
-        Action::SetFlag => set_flag(area, journal, used, held, k, start, rest),
+        Action::SetFlag => set_flag(area, journal, used, held, run, rest),
     }
 }
 
@@ -121,12 +131,10 @@ fn count_named(order: Order, area: &[u8]) -> usize
     requires { Sound order.held × Within order area.now }
     ensures { result ≡ count_named order area.now }
 {
-    let m = order.message;
-    if !is_write(m.does) {
+    if !is_write(order.message.does) {
         return 0;
     }
-    let k = order.held.kind(m.tag);
-    count_run(area, k, order.start, order.count)
+    count_run(area, order.run())
 }
 
 // An order carried out: what the message says, then what it stores; the count that is kept is without the slots that were named, and with them as they

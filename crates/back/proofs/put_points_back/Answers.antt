@@ -10,11 +10,11 @@ use Rattle.back.proofs.put_points_back.Goals as goal
 
 pub nonzero_div-count : goal.nonzero_div-count
 nonzero_div-count c =
-    omega (arith, some_unit c.args.held c.args.tag c.args.start c.args.old.now c.requires.sound.0 c.requires.sound.1 c.kind-k.ensures)
+    omega (arith, some_unit c.args.held c.args.tag c.args.start c.args.old.now c.requires.sound.0 c.requires.sound.1 c.kind-kind.ensures)
 
 pub count_run-before-requires : goal.count_run-before-requires
 count_run-before-requires c =
-    entry_counts c.args.held c.args.tag c.args.start c.args.old.now c.requires.sound.0 c.requires.sound.1 c.args.points.now c.kind-k.ensures c.requires.sound.2
+    entry_counts c.args.held c.args.tag c.args.start c.args.old.now c.requires.sound.0 c.requires.sound.1 c.args.points.now c.kind-kind.ensures c.requires.sound.2
 
 pub restore-requires : goal.restore-requires
 restore-requires c =
@@ -24,7 +24,7 @@ restore-requires c =
 
 pub count_run-after-requires : goal.count_run-after-requires
 count_run-after-requires c =
-    counts_after c.args.held c.args.tag c.args.start c.args.old.now c.requires.sound.0 c.requires.sound.1 c.args.points.now c.kind-k.ensures
+    counts_after c.args.held c.args.tag c.args.start c.args.old.now c.requires.sound.0 c.requires.sound.1 c.args.points.now c.kind-kind.ensures
     c.requires.sound.2
     (same_puts c.args.points.now c.restore.ensures (c.kind.ensures ∙ kind_points c.args.held) refl)
 
@@ -32,8 +32,8 @@ pub returns : goal.returns
 returns c =
     let p = same_puts c.args.points.now c.restore.ensures (c.kind.ensures ∙ kind_points c.args.held) refl in record {
       points_after = p;
-      value = ap₂ (λ (m n : ℕ). c.args.effective - m + n) (same_among c.args.start (length c.args.old.now) _ c.count_run-before.ensures c.kind-k.ensures)
-          (same_among c.args.start (length c.args.old.now) _ c.count_run-after.ensures c.kind-k.ensures)
+      value = ap₂ (λ (m n : ℕ). c.args.effective - m + n) (same_among c.args.start (length c.args.old.now) _ c.count_run-before.ensures c.kind-kind.ensures)
+          (same_among c.args.start (length c.args.old.now) _ c.count_run-after.ensures c.kind-kind.ensures)
           ∙ (entry_recounted c.args.held c.args.tag c.args.start c.args.old.now c.requires.sound.0 c.requires.sound.1 c.args.points.now c.requires.sound.2 c.requires.effective_value p).is;
     }
 
@@ -43,7 +43,7 @@ overflow_sub-others c =
       arith,
       (entry_recounted c.args.held c.args.tag c.args.start c.args.old.now c.requires.sound.0 c.requires.sound.1 c.args.points.now c.requires.sound.2 c.requires.effective_value
           (same_puts c.args.points.now c.restore.ensures (c.kind.ensures ∙ kind_points c.args.held) refl)).least,
-      same_among c.args.start (length c.args.old.now) _ c.count_run-before.ensures c.kind-k.ensures,
+      same_among c.args.start (length c.args.old.now) _ c.count_run-before.ensures c.kind-kind.ensures,
     )
 
 pub overflow_add-result : goal.overflow_add-result
@@ -52,6 +52,6 @@ overflow_add-result c =
       arith,
       (entry_recounted c.args.held c.args.tag c.args.start c.args.old.now c.requires.sound.0 c.requires.sound.1 c.args.points.now c.requires.sound.2 c.requires.effective_value
           (same_puts c.args.points.now c.restore.ensures (c.kind.ensures ∙ kind_points c.args.held) refl)).most 18446744073709551615 (omega arith) (omega (arith, c.requires.sound.0.points)),
-      same_among c.args.start (length c.args.old.now) _ c.count_run-before.ensures c.kind-k.ensures,
-      same_among c.args.start (length c.args.old.now) _ c.count_run-after.ensures c.kind-k.ensures,
+      same_among c.args.start (length c.args.old.now) _ c.count_run-before.ensures c.kind-kind.ensures,
+      same_among c.args.start (length c.args.old.now) _ c.count_run-after.ensures c.kind-kind.ensures,
     )
