@@ -1,15 +1,13 @@
 use Prim.Native.Nat.{◌≤◌}
-use mathlib.Core.Path.{◌≡◌, ap, subst, sym, ◌∙◌}
+use mathlib.Core.Path.{◌≡◌, ap, sym, ◌∙◌}
 use native.Mathlib.Omega.{arith}
 use lib.ListN.{length}
 use Rattle.kinds.specs.Kinds.{held_in}
 use Rattle.messages.specs.Asked.{asked_by}
 use Rattle.messages.proofs.Numbered.{err_number}
-use Rattle.calls.specs.declared.Kept.{Kept}
 use Rattle.calls.specs.Calls.{lengths_of}
 use Rattle.calls.specs.Lent.{areas_in, call_in}
 use Rattle.link.specs.Check.{check_of, checked_by}
-use Rattle.link.specs.Contract.{GivenBack, given_by, Acts}
 use Rattle.link.proofs.Checking.{without_reply_lem, same_act, same_gives, acted_refused, acted_heard, acted_told}
 use Rattle.link.proofs.Outcomes.{accepted_so}
 use Rattle.link.proofs.act.Goals as goal
@@ -34,15 +32,9 @@ pub returns-in-Err-clause-acts : goal.returns-in-Err-clause-acts
 returns-in-Err-clause-acts c =
     let p = (goal.at.returns-in-Err-clause-acts c).After-check-checked in
     let n = c.refuse.ensures.number_value in
-    let P : Kept → Type 0 = λ k. Acts (call_in c.args.sent c.args.reply.now (areas_in c.args.areas.now)) (given_by c.refuse.result) (record (areas_in c.args.areas.now) { kept = k }) c.refuse.new.reply in
-    subst P n.2
-    (acted_refused _ (long p) (checked p) _ _ _ (ap asked_by c.in-Err.is)
-    (err_number n.0, n.1, n.2, n.3) c.refuse.ensures.reply_after)
+    acted_refused _ (long p) (checked p) _ _ _ (ap asked_by c.in-Err.is) (err_number n.0, n.1, n.2, n.3) c.refuse.ensures.reply_after
 
 pub returns-in-Ok-clause-acts : goal.returns-in-Ok-clause-acts
 returns-in-Ok-clause-acts c =
     let p = (goal.at.returns-in-Ok-clause-acts c).After-check-checked in
-    let P : Kept → Type 0 = λ x. Acts (call_in c.args.sent c.args.reply.now (areas_in c.args.areas.now)) (given_by c.accept.result) (record (areas_in c.perform-done.new.areas) { kept = x }) c.perform-done.new.reply in
-    let made : P c.accept.result.kept = same_gives _ (sym (same_act _)) (accepted_so _ {s = c.perform-done.new.areas.firsts} c.accept.ensures
-    (acted_told _ (long p) (checked p)) c.perform-done.ensures.performs) in
-    subst P (ap (λ (x : GivenBack). x.kept) c.accept.ensures) made
+    same_gives _ (sym (same_act _)) (accepted_so _ c.accept.ensures (acted_told _ (long p) (checked p)) c.perform-done.ensures.performs)
