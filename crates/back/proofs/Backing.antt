@@ -10,7 +10,6 @@ use borrow.Author.Tests.{ne_eqb, eqb-true}
 use Rattle.kinds.specs.declared.Kind.{Kind}
 use Rattle.kinds.specs.declared.Firsts.{Firsts}
 use Rattle.kinds.specs.declared.Held.{Held}
-use Rattle.kinds.specs.declared.Lengths.{Lengths}
 use Rattle.kinds.specs.Kinds.{points_tag, Sound, points_of, columns_of, integers_of, flags_of, kind_of, held_in, size_of}
 use Rattle.kinds.proofs.Known.{tag_of, sized}
 use Rattle.points.specs.Point.{effective_in}

@@ -2,7 +2,7 @@
 use Prim.Native.Nat.{ℕ, ◌≤◌, ◌<◌}
 use mathlib.Core.Path.{◌≡◌, refl, sym, ap, ◌∙◌}
 use mathlib.Core.Bool.{Bool, true, false, cond}
-use mathlib.Core.List.{List, [], ◌++◌}
+use mathlib.Core.List.{List, []}
 use native.Mathlib.Omega.{arith}
 use lib.Dec.{eqb}
 use lib.ListN.{length}
@@ -14,12 +14,10 @@ use Rattle.kinds.specs.Kinds.{Sound}
 use Rattle.messages.specs.Asked.{Asked, Refused, Order, number_given}
 use Rattle.messages.specs.Rows.{first_of}
 use Rattle.messages.proofs.Judged.{refused_from}
-use Rattle.calls.specs.declared.Kept.{Kept}
 use Rattle.std.specs.Prelude.{Option, None}
 use Rattle.frames.specs.declared.checks.Sum.{Sum}
 use Rattle.calls.specs.Calls.{Areas, Call, Outcome, call_of, lengths_of, unanswered}
-use Rattle.calls.proofs.Parts.{equal_parts}
-use Rattle.refusals.specs.Refusals.{too_short, late, silent_of, told_after, told_of, early, check_early, check_silent_of, check_told_of}
+use Rattle.refusals.specs.Refusals.{too_short, silent_of, told_after, told_of, early, check_early, check_silent_of, check_told_of}
 use Rattle.refusals.proofs.Rows.{passed, check_silent_is, told_untested}
 use Rattle.refusals.proofs.Tested.{shaped_long, sound}
 use Rattle.orders.specs.declared.Order as order
@@ -27,7 +25,7 @@ use Rattle.link.specs.Answer.{held, asked, text_of, areas_after, answer_of}
 use Rattle.link.specs.Check.{Looked, check_of, refused_text, act_text, act_of}
 use Rattle.link.specs.Contract.{GivenBack, Heard, Gives, Acts}
 use Rattle.link.proofs.Answering.{silent_answer, heard_answer, silent_number_lem}
-use Rattle.link.proofs.Outcomes.{handing_on, gives_by}
+use Rattle.link.proofs.Outcomes.{gives_by}
 
 -- what a check answers: a refusal without a reply, or what the frame asks
 pub checked_silent : (c : Call) (k : ℕ) (t : Option Sum) → k ≡ check_silent_of c → t ≡ check_told_of c → (k ≡ 0 → ⊥) → record { asked = Refused k; sum = t } ≡ check_of c
@@ -170,13 +168,11 @@ module _ (c : Call) (long : 1024 ≤ length c.sent.reply) {k : Looked} (checked 
   -- the check refused
   pub acted_refused : (n : ℕ) (r : GivenBack) (reply' : List ℕ) → k.asked ≡ Refused n
       → (r.number ≡ n) × (r.length ≡ length (refused_text c.sent.settings.station n)) × (r.kept ≡ c.areas.kept) × (r.sum ≡ k.sum)
-      → reply' ≡ laid c.sent.reply 0 (refused_text c.sent.settings.station n) → Acts c r (handing_on c.areas r.kept) reply'
+      → reply' ≡ laid c.sent.reply 0 (refused_text c.sent.settings.station n) → Acts c r c.areas reply'
   acted_refused n r reply' e f g =
       let o : act_of c ≡ doing c enough (Refused n) k.sum =
       long_act c enough ∙ ap (λ (x : Looked). doing c enough x.asked x.sum) (sym checked) ∙ ap (λ (a : Asked). doing c enough a k.sum) e in
-      gives_by c _ r (handing_on c.areas r.kept) reply' refl o f.0 f.1 f.3
-      (equal_parts refl refl refl refl refl (ap (λ (x : Kept). x.used) f.2) (ap (λ (x : Kept). x.effective) f.2))
-      g
+      gives_by c _ r c.areas reply' f.2 o f.0 f.1 f.3 refl g
 
   -- the check answered an order: the frame is heard, and orders that
   pub acted_heard : (o : order.Order) → k.asked ≡ Order o.message o.start o.count → o.held ≡ held c → Heard c o

@@ -11,7 +11,6 @@ use Rattle.digits.specs.Laid.{laid}
 use Rattle.frames.specs.Frame.{content_in, reply_of, normal}
 use Rattle.kinds.specs.declared.Kind.{Kind}
 use Rattle.kinds.specs.declared.Held.{Held}
-use Rattle.kinds.specs.declared.Firsts.{Firsts}
 use Rattle.kinds.specs.Kinds.{points_tag, columns_tag, integers_tag, flags_tag, points_of, columns_of, integers_of, flags_of, kind_of, run_of, put}
 use Rattle.kinds.proofs.Known.{each_kind, kind_points, kind_columns, kind_integers, kind_flags, tag_of, few}
 use Rattle.journal.specs.Journal.{encodes, entries_in, added, area_of, puts, entry_for}
@@ -36,10 +35,6 @@ use Rattle.link.specs.Answer.{held, asked, text_of, areas_after, answer_of}
 use Rattle.link.specs.Contract.{GivenBack, Heard, accepted, Gives, Answers, Performs}
 use Rattle.link.proofs.Answering.{heard_answer}
 use Rattle.link.proofs.Carrying.{Fine, fine, counts, ordered}
-
--- areas with other kept numbers
-abbrev pub handing_on : Areas → Kept → Areas
-handing_on a k = areas_of a.points a.columns a.integers a.flags a.journal k a.firsts
 
 -- a result that is the outcome
 pub gives_by : {f : Call → Outcome} (c : Call) (o : Outcome) (r : GivenBack) (areas' : Areas) (reply' : List ℕ) → r.kept ≡ areas'.kept → f c ≡ o
@@ -168,7 +163,6 @@ module _ {c : Call} {o : Order} (e : Heard c o) (tag : ℕ) (whole : replacing t
         (p.bytes ∙ ap (λ (x : List ℕ). laid c.sent.reply 0 (reply_of normal c.sent.settings.station x)) said)
 
 -- the result that says so
-pub accepted_so : {c : Call} {r : GivenBack} (done : Done) {t : Option Sum} {p i n f j reply' : List ℕ} {s : Firsts} → r ≡ accepted done t → t ≡ told_of c
-    → Performs c done (areas_of p i n f j done.kept s) reply' → Answers c r (areas_of p i n f j r.kept s) reply'
-accepted_so {c} done {t} {p} {i} {n} {f} {j} {reply'} {s} e g a =
-    subst (λ (x : GivenBack). Answers c x (areas_of p i n f j x.kept s) reply') (sym (e ∙ ap (λ (x : Option Sum). accepted done x) g)) a
+pub accepted_so : {c : Call} {r : GivenBack} (done : Done) {t : Option Sum} {areas' : Areas} {reply' : List ℕ} → r ≡ accepted done t → t ≡ told_of c
+    → Performs c done areas' reply' → Answers c r areas' reply'
+accepted_so {c} done {areas'} {reply'} e g a = subst (λ (x : GivenBack). Answers c x areas' reply') (sym (e ∙ ap (accepted done) g)) a

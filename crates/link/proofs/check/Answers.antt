@@ -1,10 +1,6 @@
-use mathlib.Core.Path.{◌≡◌, sym, ap, ◌∙◌}
-use mathlib.Core.List.{[]}
+use mathlib.Core.Path.{sym, ap, ◌∙◌}
 use Rattle.kinds.specs.Kinds.{held_in}
 use Rattle.messages.proofs.Numbered.{refusal_some, err_number, ok_number}
-use Rattle.calls.specs.Calls.{Call}
-use Rattle.calls.specs.Lent.{areas_read, call_in}
-use Rattle.refusals.specs.Refusals.{check_silent_of}
 use Rattle.refusals.proofs.Tested.{same_sound}
 use Rattle.link.proofs.Answering.{same_asked}
 use Rattle.link.proofs.Checking.{checked_silent, checked_heard, fits}

@@ -1,9 +1,6 @@
 use Rattle.std.proofs.Common.{rules}
 use mathlib.Core.Path.{refl}
 use Rattle.kinds.specs.Kinds.{points_tag, columns_tag, integers_tag, flags_tag}
-use Rattle.calls.specs.Calls.{Call}
-use Rattle.calls.specs.Lent.{areas_in, call_in}
-use Rattle.link.specs.Answer.{held}
 use Rattle.link.proofs.Outcomes.{last_kind, can_carry, performed}
 use Rattle.link.proofs.perform.Goals as goal
 
@@ -27,10 +24,8 @@ returns-in-73-clause-performs c = performed c.requires integers_tag refl (λ _. 
 
 pub carry_out-requires-in_default : goal.carry_out-requires-in_default
 carry_out-requires-in_default c =
-    let call : Call = call_in c.args.sent c.args.reply.now (areas_in c.args.areas.now) in
-    can_carry c.requires flags_tag refl (last_kind (held call) _ (search rules) (search rules) (search rules))
+    can_carry c.requires flags_tag refl (last_kind _ _ (search rules) (search rules) (search rules))
 
 pub returns-in_default-clause-performs : goal.returns-in_default-clause-performs
 returns-in_default-clause-performs c =
-    let call : Call = call_in c.args.sent c.args.reply.now (areas_in c.args.areas.now) in
-    performed c.requires flags_tag refl (last_kind (held call) _ (search rules) (search rules) (search rules)) c.carry_out-in_default.ensures.says c.carry_out-in_default.ensures.stores c.carry_out-in_default.ensures.effective_value
+    performed c.requires flags_tag refl (last_kind _ _ (search rules) (search rules) (search rules)) c.carry_out-in_default.ensures.says c.carry_out-in_default.ensures.stores c.carry_out-in_default.ensures.effective_value
