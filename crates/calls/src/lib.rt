@@ -1,5 +1,4 @@
-// What is handed over with a call beside the areas' bytes, what is handed on from call to call (document 01, "The areas"), and what an answer tells of
-// the sum (document 02, f).
+// What is handed over with a call, what is handed on from call to call (document 01, "The areas"), and what an answer tells of the sum (document 02, f).
 #![tactic(auto)]
 
 ghost use Rattle.std.specs.Prelude.{◌≡◌};
