@@ -19,7 +19,7 @@ pub fn content(frame: &[u8]) -> &[u8]
     &frame[6..frame.len() - 4]
 }
 
-// The number of a field of up to four digits.
+// The number of a field of up to four digits. Std has no `From<u64>` for a usize, and no four digits fail `try_from`.
 fn small(field: &[u8]) -> usize
     requires { length field.now ≤ 4 }
     ensures { (result ≡ number_of field.now) × (result < 65536) }

@@ -74,6 +74,7 @@ fn pair_at(s: &[u8], i: usize) -> bool
 fn pair(s: &[u8]) -> usize
     ensures { result ≡ pair_of s.now }
 {
+    // no `for`: from one CR to the next is another step each time
     let mut at = place(s, b'\r');
     while at < s.len() && !pair_at(s, at) {
         at += 1;
@@ -114,6 +115,7 @@ fn near(s: &[u8], b: u8) -> usize
 fn first(s: &[u8]) -> usize
     ensures { result ≡ skip_of s.now }
 {
+    // no `for`, as in `pair`
     let mut bang = place(s, b'!');
     while bang < s.len() && is_skipped(&s[bang..]) {
         bang += 1;

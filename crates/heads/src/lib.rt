@@ -35,7 +35,7 @@ fn put_head(reply: &mut [u8], m: Message, start: usize, count: usize) -> usize
     ensures value { (result ≡ 3 + length (head_of m start count)) × (result ≤ 18) }
     ensures reply_after { reply.new ≡ laid reply.old 3 (head_of m start count) }
 {
-    put_number(reply, 3, 3, m.id as u64);
+    put_number(reply, 3, 3, u64::from(m.id));
     if m.repeats {
         put_fields(reply, m, start, count)
     } else {
