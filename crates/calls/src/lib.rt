@@ -10,7 +10,7 @@ use frames::checks::Sum;
 use kinds::{Firsts, Lengths};
 
 // A frame's settings, the cabinet release (document 02, l) and whether '@@' is allowed (f) among them; the first numbers of variables, which a step back
-// needs too, are kinds::Firsts.
+// needs too, are kinds::Firsts. The release is the host's byte, and no enum: 13 refuses one that is neither 1 nor 2.
 #[derive(Clone, Copy)]
 pub struct Settings {
     pub station: u8,

@@ -51,7 +51,7 @@ pub fn close_reply(reply: &mut [u8], station: u8, many: usize) -> usize
     close(reply, b'#', station, many)
 }
 
-// The ten bytes of an error reply.
+// The ten bytes of an error reply. Of any number, as its table prints it: a refusal would ask more of a caller.
 pub fn error_reply(reply: &mut [u8], station: u8, number: u16) -> usize
     requires { 10 ≤ length reply.old }
     ensures value { result ≡ 10 }

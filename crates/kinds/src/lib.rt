@@ -4,7 +4,8 @@
 ghost use Rattle.std.specs.Prelude.{◌≡◌, ◌+◌, ◌*◌, ◌<◌, ◌≤◌, ◌^◌, length};
 ghost use Rattle.kinds.specs.Kinds.{points_of, columns_of, integers_of, flags_of, kind_of, held_in, holds, place_of, run_of};
 
-// A kind of numbered thing: its journal tag, first number, bytes for each, how many are held, how many an entry may name.
+// A kind of numbered thing: its journal tag, first number, bytes for each, how many are held, how many an entry may name. The tag is a byte and
+// no enum: an entry's first byte may be any, and `Held::kind` answers at each.
 #[derive(Clone, Copy, Debug, PartialEq, Eq)]
 pub struct Kind {
     pub tag: u8,

@@ -66,6 +66,7 @@ fn refuse(reply: &mut [u8], station: u8, refusal: Refusal, kept: Kept, sum: Opti
 }
 
 // An order carried out in the area of the message's kind; a message that asks of no kind is handed the last one, and leaves it.
+// A call in each arm, since the journal goes along and a chosen `&mut` area beside it is not covered.
 fn perform(order: Order, sent: Sent<'_>, areas: &mut Areas<'_, '_>, reply: &mut [u8]) -> Done
     requires { Heard (call_in sent reply.old (areas_in areas.old)) order }
     ensures performs { Performs (call_in sent.entry reply.old (areas_in areas.old)) result

@@ -23,7 +23,8 @@ pub struct Request {
     pub count: usize,
 }
 
-// What is shown of it: the refusal's number; or 0, the message's ID, and start and count where it names a run.
+// What is shown of it: the refusal's number; or 0, the message's ID, and start and count where it names a run. Numbers, since C is given
+// them so (`cabinet_check`).
 #[derive(Clone, Copy)]
 pub struct Shown {
     pub number: u16,

@@ -59,7 +59,7 @@ fn rest_of(m: Message, frame: &[u8]) -> &[u8]
     &body[fields..]
 }
 
-// What a message has the board say. The reply's length.
+// What a message has the board say. The reply's length. By what the row does, and no function in the row: each arm hands on other things.
 fn say(order: Order, sent: Sent<'_>, area: &[u8], kept: Kept, reply: &mut [u8]) -> usize
     requires { Ordered order sent.frame.now area.now × (1024 ≤ length reply.old) }
     ensures { Says order (sent_in sent.entry reply.old) kept area.now result reply.new }
