@@ -1,0 +1,23 @@
+#!/bin/bash
+# At the top of a checkout: the candidates of each point of docs/DESIGN-PASS.md in src/. What of them is a place, the page says.
+s='crates/*/src/*.rt'
+echo "1a enums:            $(grep -hE '^pub enum|^enum' $s | wc -l)"
+echo "1b numbers and flags: $(grep -hE 'number: u16|eight: bool|pub tag: u8|pub release: u8' $s | wc -l)"
+echo "1c answers a number: $(grep -hE '^(pub )?fn .*_refusal\(|-> u16$|^\) -> u(8|16)$' $s | wc -l)"
+echo "1d return 0:         $(grep -hE 'return 0;' $s | wc -l)"
+echo "3  while and loop:   $(grep -hE "^ *('[a-z]+: )?(while|loop)\b" $s | wc -l)"
+echo "3  of them while let: $(grep -hE "^ *while let" $s | wc -l)"
+echo "4a casts by as:      $(grep -hE ' as (u8|u16|u32|u64|usize|i32|i64)\b' $s | wc -l)"
+echo "4b arms to a bool:   $(grep -hE '=> (true|false),' $s | wc -l)"
+echo "4c return false:     $(grep -hE 'return false;' $s | wc -l)"
+echo "4d types with derives beyond Clone, Copy: $(grep -hE '^ *#\[derive\(.*(Debug|Drop)' $s | wc -l)"
+echo "5a flags beside the other areas: $(grep -hE 'flags: &(.a )?(mut )?\[u8\]' $s | wc -l)"
+echo "5b axes beside settings: $(grep -hE '^ *(axes: Axes,|.*axes: Axes, settings)' $s | wc -l)"
+echo "5c k, start, count:  $(grep -hE 'k: Kind, start: usize, count|^    k: Kind,$' $s | wc -l)"
+echo "5d Sound held:       $(grep -hE 'requires.*Sound held' $s | wc -l)"
+echo "5e Narrow m:         $(grep -hE 'requires.*Narrow m' $s | wc -l)"
+echo "5f all_digits:       $(grep -hE 'all_digits [a-z.]+now ≡ true' $s | wc -l)"
+echo "6  journal with used: $(grep -hE 'used: usize' $s | wc -l)"
+echo "7  match on does:    $(grep -hE 'match (does|m.does)' $s | wc -l)"
+echo "lines of src:        $(cat $s | wc -l)"
+echo "lines of proofs:     $(find crates -path '*/out' -prune -o -path '*/proofs/*.antt' -print | xargs cat | wc -l) in $(find crates -path '*/out' -prune -o -path '*/proofs/*.antt' -print | wc -l) files"
