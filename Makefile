@@ -7,11 +7,11 @@ SHELL := /bin/bash
 
 STRICT := -Wall -Wextra -Werror -pedantic -Iinclude
 ARCHIVE := target/staticlib/libboard.a
-# bytes of jump tables and data that the archive may have (it has 700; a jump table of 22 digits is 88), of read-only data of all kinds (2,256; 256 more
-# would be the table), and rows of four rising bytes (5, each in the constant of a pshufb, which says which byte goes where; a table of digits has more)
+# bytes of jump tables and data that the archive may have (it has 700; a jump table of 22 digits is 88), of read-only data of all kinds (2,156; 256 more
+# would be the table), and rows of four rising bytes (4, each in the constant of a pshufb, which says which byte goes where; a table of digits has more)
 TABLES := 787
-READ_ONLY := 2271
-RISING := 5
+READ_ONLY := 2171
+RISING := 4
 # host/plain.c under the archive's names, and under those that host/benchmark.c gives it where it is compiled at -O3
 AS_ARCHIVE := -Dplain_receive=cabinet_receive -Dplain_answer=cabinet_answer -Dplain_check=cabinet_check -Dplain_act=cabinet_act \
   -Dplain_step_back=cabinet_step_back

@@ -18,7 +18,8 @@ pub fn answer_lent(
     settings: Settings,
     reply: &mut [u8],
 ) -> Answered
-    ensures answers { Answers (call_of frame.now (lent_axes records.now) settings reply.old (areas_in areas.old)) (given_by result) (areas_in areas.new) reply.new }
+    ensures answers { Answers (call_of frame.now (lent_axes records.now) settings reply.old (areas_in areas.old))
+        (given_by result) (areas_in areas.new) reply.new }
     ensures same_lent { SameLent areas.new areas.old }
 {
     let sent = Sent {
