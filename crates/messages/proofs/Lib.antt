@@ -3,3 +3,4 @@ pub mod Judged
 pub mod Capitals
 pub mod Shapes
 pub mod Promised
+pub mod Shows

@@ -21,6 +21,11 @@ abbrev pub asked_by : Result Request Refusal → Asked
 asked_by (Ok r) = Order r.message r.start r.count
 asked_by (Err refusal) = Refused (refusal_number refusal)
 
+-- and one that has the refusal's number itself, whatever number that is
+abbrev pub asked_with : Result Request ℕ → Asked
+asked_with (Ok r) = Order r.message r.start r.count
+asked_with (Err number) = Refused number
+
 -- 102: "a content byte isn't a digit (not 200H)", as a release admits it (02, l)
 abbrev pub not_digits : ℕ → Message → List ℕ → Bool
 not_digits release m content = not (any_bytes m.follows) && not (admitted release content)

@@ -6,7 +6,7 @@ ghost use Rattle.std.specs.Prelude.{◌≡◌, not, ◌&&◌, ◌+◌, ◌≤◌
 ghost use Rattle.kinds.specs.Kinds.{Sound, holds};
 ghost use Rattle.table.specs.Table.{message_of, any_bytes, Narrow};
 ghost use Rattle.messages.specs.Asked.{asked_by, not_digits, judged, asked_of};
-ghost use Rattle.messages.specs.Shown.{shown_of};
+ghost use Rattle.messages.specs.Shown.{Shows};
 
 pub mod refusal; // why a frame or a step back is refused
 
@@ -129,17 +129,21 @@ pub fn judge(frame: &[u8], held: Held, fitted: u8, release: u8) -> Result<Reques
     judge_content(message, content(frame), held, fitted, release)
 }
 
-// A refusal shows no message, and a message that names no run neither start nor count: 0.
-pub fn show(asked: Result<Request, Refusal>) -> Shown
-    ensures { result ≡ shown_of (asked_by asked) }
+// A refusal shows no message, and a message that names no run neither start nor count: 0. Whatever has a number stands for the refusal: a `Refusal`, or
+// the number itself, any at all.
+pub fn show<E: Into<u16>>(asked: Result<Request, E>) -> Shown
+    ensures { Shows E.converts asked result }
 {
     match asked {
-        Err(refusal) => Shown {
-            number: refusal.into(),
-            message: 0,
-            start: 0,
-            count: 0,
-        },
+        Err(refusal) => {
+            let number = refusal.into();
+            Shown {
+                number,
+                message: 0,
+                start: 0,
+                count: 0,
+            }
+        }
         Ok(request) if request.message.start < 1 => Shown {
             number: 0,
             message: request.message.id,
