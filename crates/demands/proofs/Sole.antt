@@ -4,6 +4,7 @@ use mathlib.Core.Path.{◌≡◌, sym, ap, ◌∙◌}
 use mathlib.Core.List.{List}
 use Rattle.link.specs.Contract.{GivenBack}
 use Rattle.messages.proofs.Numbered.{same_asked_by, same_number}
+use Rattle.messages.proofs.Shows as shows
 use Rattle.link.specs.declared.Checked.{Checked}
 use Rattle.link.specs.Check.{Looked, checked_by}
 use Rattle.back.specs.Back.{Back}
@@ -34,7 +35,13 @@ same_checked {r} {r'} e =
     λ i. record { asked = a i; sum = (e i).sum }
 
 pub one_check : (c : Call) → OneCheck c
-one_check c = record { checked = λ r r' e f. same_checked (e ∙ sym f); shown = λ asked r r' e f. e ∙ sym f }
+one_check c =
+    record {
+      checked = λ r r' e f. same_checked (e ∙ sym f);
+      shown = λ asked r r' e f. e ∙ sym f;
+      shown_refusal = λ asked r r' e f. shows.shown_refusal asked e ∙ sym (shows.shown_refusal asked f);
+      shown_number = λ asked r r' e f. shows.shown_number asked e ∙ sym (shows.shown_number asked f);
+    }
 
 pub one_step_back : OneStepBack
 one_step_back before r r' a a' x y =

@@ -3,10 +3,11 @@ use Rattle.std.specs.Prelude.{ℕ, ◌≡◌, List, Result, ⊤}
 use Rattle.finder.specs.declared.Found.{Found}
 use Rattle.finder.specs.Find.{find_in, part_of}
 use Rattle.messages.specs.declared.refusal.Refusal.{Refusal}
-use Rattle.messages.specs.Refusal.{number_by}
+use Rattle.messages.specs.Refusal.{refusal_number, number_by}
+use Rattle.messages.specs.declared.Request.{Request}
 use Rattle.messages.specs.Asked.{Asked}
 use Rattle.messages.specs.declared.Shown.{Shown}
-use Rattle.messages.specs.Shown.{shown_of}
+use Rattle.messages.specs.Shown.{shown_of, Shows}
 use Rattle.calls.specs.Calls.{Areas, Call, Outcome}
 use Rattle.link.specs.declared.Checked.{Checked}
 use Rattle.back.specs.Back.{Back}
@@ -29,10 +30,15 @@ OneAnswered = (r r' : Answered) → given_by r ≡ given_by r' → r ≡ r'
 abbrev pub OneStepped : Type 0
 OneStepped = (r r' : Result ⊤ Refusal) → number_by r ≡ number_by r' → r ≡ r'
 
--- `check`, and what `show` makes of what it answers
+-- `check`, and what `show` makes of what it answers, or of a number that stands for the refusal
 pub record OneCheck (c : Call) : Type 0 where
   pub checked : (r r' : Checked) → checked_by r ≡ check_of c → checked_by r' ≡ check_of c → r ≡ r'
   pub shown : (asked : Asked) (r r' : Shown) → r ≡ shown_of asked → r' ≡ shown_of asked → r ≡ r'
+  pub shown_refusal :
+      (asked : Result Request Refusal) (r r' : Shown)
+      → Shows (λ refusal number. number ≡ refusal_number refusal) asked r → Shows (λ refusal number. number ≡ refusal_number refusal) asked r' → r ≡ r'
+  pub shown_number :
+      (asked : Result Request ℕ) (r r' : Shown) → Shows (λ given number. number ≡ given) asked r → Shows (λ given number. number ≡ given) asked r' → r ≡ r'
 
 -- `step_back`
 abbrev pub OneStepBack : Type 0

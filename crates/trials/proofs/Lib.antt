@@ -1,6 +1,7 @@
 pub mod Computing
 pub mod Worked
 pub mod Useless
+pub mod MetByCode
 pub mod Broken
 pub mod Examples
 pub mod SurviveExamples

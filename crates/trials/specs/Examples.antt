@@ -63,6 +63,7 @@ pub record Examples : Type 0 where
   pub slot_fits : Fits (point_of bench_digits)
   -- and `HighFirst`: eight digits
   pub eight_digits : length (text "0000002A") ≡ 8
-  -- the other contracts can be met, for every call, as `answer`'s can (`can-be-met` in Useless.antt): what they say is not too much
+  -- the other contracts can be met, for every call, as `answer`'s can (`can_be_met` in Useless.antt): what they say is not too much; by values of the
+  -- code's own types too (MetByCode.antt)
   pub step_back_lem : (a : Areas) → StepsBack a (record { number = (back_of a).number; kept = (back_of a).areas.kept }) (back_of a).areas
   pub receive : (f : Found) → Receives f (code_of f) (start_of f) (length_of f) (drop_of f)

@@ -1,5 +1,6 @@
 pub mod Cases
 pub mod Useless
+pub mod MetByCode
 pub mod Broken
 pub mod Examples
 pub mod SurviveExamples

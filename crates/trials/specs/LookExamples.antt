@@ -78,7 +78,7 @@ pub record LookExamples : Type 0 where
   pub short : (our_panel.check (replying 1023 "!99208@@\r\n") ≡ looks 0 0x208 0 0 (Some SwitchedOff))
       × (act_of (replying 1023 "!99208@@\r\n") ≡ unanswered None 1 smallest) × ((act_of (replying 1023 "!9929937\r\n")).number ≡ 1)
       × ((act_of (replying 1024 "!9929937\r\n")).number ≡ 101)
-  -- the contracts can be met, for every call
+  -- the contracts can be met, for every call (by values of the code's own types too: MetByCode.antt)
   pub act_met :
       (c : Call)
       → Acts c (record { number = (act_of c).number; length = length (act_of c).text; kept = (act_of c).areas.kept; sum = (act_of c).sum }) (act_of c).areas

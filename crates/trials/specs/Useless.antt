@@ -102,7 +102,7 @@ given answer c =
       reply = laid c.sent.reply 0 (answer c).text;
     }
 
--- the contract rules them out; it can be met, so it isn't for an empty reason
+-- the contract rules them out; it can be met, so it isn't for an empty reason (by a value of the code's own type too: MetByCode.antt)
 pub record Useless : Type 0 where
   pub can_be_met : Meets (given answer_of)
   pub refuses_all : (board : Board) → RefusesAll (outcome_by board) → Meets board → ⊥
