@@ -43,11 +43,26 @@ pub fn records_of(axes: Axes) -> [AxisRecord; 8]
     axes.unwrap_or(no_records())
 }
 
+// A run of eight as an array by value, since everything behind it takes the records so.
+pub fn eight_of(records: &[AxisRecord]) -> [AxisRecord; 8]
+    requires { length records.now ≡ 8 }
+    ensures { result ≡ records.now }
+{
+    [
+        records[0], records[1], records[2], records[3], records[4], records[5], records[6],
+        records[7],
+    ]
+}
+
 // The lent run is read here alone, so that the rest takes the array by value.
 pub fn axes_of(records: &[AxisRecord]) -> Axes
     ensures { result ≡ lent_axes records.now }
 {
-    <[AxisRecord; 8]>::try_from(records).ok()
+    if records.len() == 8 {
+        Some(eight_of(records))
+    } else {
+        None
+    }
 }
 
 // The record whose nine bytes stand at a place.

@@ -42,12 +42,13 @@ struct Board {
     kept: Kept,
 }
 
-// The bytes of an operation from a place on, zeros where they are not all there.
+// The bytes of an operation from a place on, a zero for each that is not there.
 fn bytes_at<const N: usize>(operation: &[u8], at: usize) -> [u8; N] {
-    match operation.get(at..) {
-        Some(rest) => rest.first_chunk().copied().unwrap_or([0; N]),
-        None => [0; N],
+    let mut bytes = [0; N];
+    for (to, from) in bytes.iter_mut().zip(operation.iter().skip(at)) {
+        *to = *from;
     }
+    bytes
 }
 
 fn byte_at(operation: &[u8], at: usize) -> u8 {
@@ -286,18 +287,7 @@ impl Board {
 }
 
 impl Memory {
-    fn fresh() -> Memory {
-        Memory {
-            points: [0; 60000],
-            columns: [0; 720],
-            integers: [0; 420],
-            flags: [0; 320],
-            journal: [0; 65600],
-            reply: [0xEE; 1100],
-            axes: [0; 80],
-        }
-    }
-
+    // 'B': all zeros, but for the reply's bytes.
     fn clear(&mut self) {
         self.points.fill(0);
         self.columns.fill(0);
@@ -308,7 +298,7 @@ impl Memory {
         self.axes.fill(0);
     }
 
-    // A buffer, by its number in 'X'.
+    // A buffer, by its number in 'X'; an empty one where none has it.
     fn buffer(&mut self, which: u8) -> &mut [u8] {
         match which {
             0 => &mut self.points,
@@ -317,7 +307,8 @@ impl Memory {
             3 => &mut self.flags,
             4 => &mut self.journal,
             5 => &mut self.reply,
-            _ => &mut self.axes,
+            6 => &mut self.axes,
+            _ => &mut [],
         }
     }
 
@@ -391,13 +382,17 @@ fn play_all(rt: &impl Print, operations: &[u8], memory: &mut Memory) -> io::Resu
     Ok(())
 }
 
-// What comes, until the area is full or the input ends, and how many bytes it was. Each turn but the last reads one byte at least.
+// What comes, until the area is full or the input ends, and how many bytes it was. Each turn but the last reads one byte at least; a full area is not
+// read into, since some inputs refuse a read of no bytes.
 fn read_full(input: &mut impl Read, area: &mut [u8]) -> io::Result<usize>
     ensures ok { IfOk result (λ n. n ≤ length area.new) }
     ensures err { OnErr result (length area.new ≡ length area.old) }
 {
     let mut have = 0;
     for _ in 0..area.len() {
+        if have == area.len() {
+            break;
+        }
         let n = input.read(&mut area[have..])?;
         if n == 0 {
             break;
@@ -409,6 +404,16 @@ fn read_full(input: &mut impl Read, area: &mut [u8]) -> io::Result<usize>
 
 fn main(rt: HostRuntime) -> io::Result<()> {
     let mut operations = [0; 163840];
+    // made where it stays: a value that is moved stands on the stack twice
+    let mut memory = Memory {
+        points: [0; 60000],
+        columns: [0; 720],
+        integers: [0; 420],
+        flags: [0; 320],
+        journal: [0; 65600],
+        reply: [0; 1100],
+        axes: [0; 80],
+    };
     let n = read_full(&mut rt.stdin(), &mut operations)?;
-    play_all(&rt, &operations[..n], &mut Memory::fresh())
+    play_all(&rt, &operations[..n], &mut memory)
 }
