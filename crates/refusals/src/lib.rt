@@ -166,7 +166,7 @@ fn test_late(sum: Sum, sent: Sent<'_>, areas: AreasTested<'_>) -> Result<(), Ref
 
 // Tests 2 to 6, 10 and 13.
 fn test_early(sent: Sent<'_>, areas: AreasTested<'_>) -> Result<(), Refusal>
-    ensures { number_by result ≡ first_of (check_rows sent.entry.frame.now sent.entry.axes sent.entry.settings (lengths_tested areas.entry) areas.entry.journal.now areas.entry.kept) }
+    ensures { let s = sent.entry in let t = areas.entry in number_by result ≡ first_of (check_rows s.frame.now s.axes s.settings (lengths_tested t) t.journal.now t.kept) }
 {
     test_areas(areas)?;
     if !fits_axes(sent.axes, sent.settings.fitted) {
@@ -183,12 +183,10 @@ fn test_early(sent: Sent<'_>, areas: AreasTested<'_>) -> Result<(), Refusal>
 
 // Whether the refusals without a reply are passed, 2 to 8 and 10 to 13, and what is told of the sum; 1 is tested where there is a reply area, before all this.
 pub fn silent(sent: Sent<'_>, areas: AreasTested<'_>) -> Hearing
-    ensures number_value { number_by result.passed
-        ≡ first_of (check_rows sent.entry.frame.now sent.entry.axes sent.entry.settings (lengths_tested areas.entry) areas.entry.journal.now areas.entry.kept
-        ++ rows_from_sum sent.entry.settings sent.entry.frame.now areas.entry.points.now areas.entry.kept) }
-    ensures sum_value { result.sum
-        ≡ told_after (first_of (check_rows sent.entry.frame.now sent.entry.axes sent.entry.settings (lengths_tested areas.entry) areas.entry.journal.now areas.entry.kept))
-        sent.entry.settings.release sent.entry.frame.now }
+    ensures number_value { let s = sent.entry in let t = areas.entry in number_by result.passed
+        ≡ first_of (check_rows s.frame.now s.axes s.settings (lengths_tested t) t.journal.now t.kept ++ rows_from_sum s.settings s.frame.now t.points.now t.kept) }
+    ensures sum_value { let s = sent.entry in let t = areas.entry in result.sum
+        ≡ told_after (first_of (check_rows s.frame.now s.axes s.settings (lengths_tested t) t.journal.now t.kept)) s.settings.release s.frame.now }
 {
     if let Err(refusal) = test_early(sent, areas) {
         return Hearing {
@@ -206,7 +204,7 @@ pub fn silent(sent: Sent<'_>, areas: AreasTested<'_>) -> Hearing
 // The step back's tests: 2, 3, 10, 4, 11, then 9.
 #[tactic(auto, using(crate::proofs::Rows::back_9))]
 pub fn back_refusal(areas: AreasTested<'_>) -> Result<(), Refusal>
-    ensures { number_by result ≡ first_of (back_rows (lengths_tested areas.entry) areas.entry.points.now areas.entry.journal.now areas.entry.kept) }
+    ensures { let t = areas.entry in number_by result ≡ first_of (back_rows (lengths_tested t) t.points.now t.journal.now t.kept) }
 {
     test_areas(areas)?;
     if !is_count_true(areas.points, areas.kept.effective) {
