@@ -66,7 +66,7 @@ pub fn step_back(areas: &mut Areas<'_, '_>) -> Result<(), Refusal>
     ensures same_lent { SameLent areas.new areas.old }
 {
     let read = areas.read();
-    back_refusal(read)?;
+    back_refusal(read.tested())?;
     let held = held_in(read.lengths());
     let used = areas.kept.used;
     let journal = take(&mut areas.journal);

@@ -1,8 +1,10 @@
 -- What a host lends, as the records that all is stated of, and that what was lent is the same as before.
-use Rattle.std.specs.Prelude.{ℕ, ◌≡◌, List}
-use Rattle.calls.specs.Calls.{Areas, Sent, Call, areas_of, sent_of, call_of}
+use Rattle.std.specs.Prelude.{ℕ, ◌≡◌, List, length}
+use Rattle.kinds.specs.declared.Lengths.{Lengths}
+use Rattle.calls.specs.Calls.{Areas, Sent, Call, areas_of, sent_of, call_of, lengths_of}
 use Rattle.calls.specs.declared.Areas.{Areas as LentAreas}
 use Rattle.calls.specs.declared.AreasRead.{AreasRead}
+use Rattle.calls.specs.declared.AreasTested.{AreasTested}
 use Rattle.calls.specs.declared.Sent.{Sent as SentLent}
 
 abbrev pub areas_in : LentAreas → Areas
@@ -10,6 +12,16 @@ areas_in a = areas_of a.points.now a.columns.now a.integers.now a.flags.now a.jo
 
 abbrev pub areas_read : AreasRead → Areas
 areas_read a = areas_of a.points.now a.columns.now a.integers.now a.flags.now a.journal.now a.kept a.firsts
+
+-- how long the areas are, and the first numbers, by what is tested of them
+abbrev pub lengths_tested : AreasTested → Lengths
+lengths_tested t =
+    record { points = length t.points.now; columns = t.columns; integers = t.integers; flags = t.flags; firsts = t.firsts }
+
+-- what is tested is that of these areas
+abbrev pub TestedOf : AreasTested → Areas → Type 0
+TestedOf t a =
+    (lengths_tested t ≡ lengths_of a) × (t.points.now ≡ a.points) × (t.journal.now ≡ a.journal) × (t.kept ≡ a.kept)
 
 -- what is handed over with a frame, with the reply area's bytes, and the call that it makes with areas
 abbrev pub sent_in : SentLent → List ℕ → Sent

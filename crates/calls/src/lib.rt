@@ -3,7 +3,7 @@
 
 ghost use Rattle.std.specs.Prelude.{◌≡◌};
 ghost use Rattle.calls.specs.Calls.{sum_code, lengths_of};
-ghost use Rattle.calls.specs.Lent.{areas_in, areas_read};
+ghost use Rattle.calls.specs.Lent.{areas_in, areas_read, lengths_tested, TestedOf};
 
 use axes::Axes;
 use frames::checks::Sum;
@@ -59,6 +59,19 @@ pub struct AreasRead<'a> {
     pub firsts: Firsts,
 }
 
+// What the tests look at: the bytes of points and journal, of the other areas the lengths alone, and what is kept. So no area of columns, integers or flags
+// need be lent to ask for a refusal.
+#[derive(Clone, Copy)]
+pub struct AreasTested<'a> {
+    pub points: &'a [u8],
+    pub columns: usize,
+    pub integers: usize,
+    pub flags: usize,
+    pub journal: &'a [u8],
+    pub kept: Kept,
+    pub firsts: Firsts,
+}
+
 impl<'a, 'j> Areas<'a, 'j> {
     pub fn read(&self) -> AreasRead<'_>
         ensures { areas_read result ≡ areas_in self.now }
@@ -85,6 +98,51 @@ impl<'a> AreasRead<'a> {
             integers: self.integers.len(),
             flags: self.flags.len(),
             firsts: self.firsts,
+        }
+    }
+
+    pub fn tested(&self) -> AreasTested<'a>
+        ensures { TestedOf result (areas_read self.now) }
+    {
+        let AreasRead {
+            points,
+            columns,
+            integers,
+            flags,
+            journal,
+            kept,
+            firsts,
+        } = *self;
+        AreasTested {
+            points,
+            columns: columns.len(),
+            integers: integers.len(),
+            flags: flags.len(),
+            journal,
+            kept,
+            firsts,
+        }
+    }
+}
+
+impl<'a> AreasTested<'a> {
+    pub fn lengths(&self) -> Lengths
+        ensures { result ≡ lengths_tested self.now }
+    {
+        let AreasTested {
+            points,
+            columns,
+            integers,
+            flags,
+            firsts,
+            ..
+        } = *self;
+        Lengths {
+            points: points.len(),
+            columns,
+            integers,
+            flags,
+            firsts,
         }
     }
 }

@@ -86,7 +86,7 @@ fn perform(order: Order, sent: Sent<'_>, areas: &mut Areas<'_, '_>, reply: &mut 
 pub fn check(sent: Sent<'_>, areas: AreasRead<'_>) -> Checked
     ensures { checked_by result ≡ check_of (call_in sent.entry [] (areas_read areas.entry)) }
 {
-    let hearing = silent(sent, areas);
+    let hearing = silent(sent, areas.tested());
     let sum = hearing.sum;
     if let Err(refusal) = hearing.passed {
         return Checked {

@@ -3,7 +3,7 @@ use Prim.Native.Nat.{ℕ, ◌≤◌, ◌<◌}
 use mathlib.Core.Path.{◌≡◌, refl, sym, ap, ap₂, ◌∙◌}
 use mathlib.Core.Bool.{Bool, true, false, cond, not, ◌&&◌}
 use mathlib.Core.Logic.{◌⊎◌, inl, inr}
-use mathlib.Core.List.{List, [], ◌∷◌, ◌++◌}
+use mathlib.Core.List.{List, ◌∷◌, ◌++◌}
 use native.Mathlib.Omega.{arith}
 use lib.Dec.{ltb, eqb}
 use lib.ListN.{length}
@@ -21,11 +21,11 @@ use Rattle.std.specs.Prelude.{None, Some}
 use Rattle.kinds.specs.declared.Lengths.{Lengths}
 use Rattle.kinds.specs.Kinds.{held_in}
 use Rattle.calls.specs.Calls.{Areas, Call, lengths_of}
-use Rattle.calls.specs.declared.AreasRead.{AreasRead}
+use Rattle.calls.specs.declared.AreasTested.{AreasTested}
 use Rattle.calls.specs.declared.Sent.{Sent as SentLent}
-use Rattle.calls.specs.Lent.{areas_read, call_in}
+use Rattle.calls.specs.Lent.{lengths_tested, TestedOf}
 use Rattle.refusals.proofs.Tested.{shaped_long}
-use Rattle.refusals.specs.Refusals.{points_fit, variables_fit, journal_fits, axes_fit, release_fits, count_true, miscounted, area_rows, check_rows, late_rows, count_rows, rows_from_sum, too_short, silent_of, check_early, early, late, told_after, told_of, check_silent_of, refusal_of, back_rows, back_refusal_of}
+use Rattle.refusals.specs.Refusals.{points_fit, variables_fit, journal_fits, axes_fit, release_fits, count_true, miscounted, area_rows, check_rows, late_rows, count_rows, rows_from_sum, too_short, silent_of, check_early, early, late, told_after, told_of, check_silent_of, check_told_of, refusal_of, back_rows, back_refusal_of}
 
 -- the areas' four, in the order tested, and what comes behind them
 abbrev pub four : Bool → Bool → Bool → Bool → ℕ → ℕ
@@ -88,6 +88,11 @@ module _ (lengths : Lengths) (journal : List ℕ) (kept : Kept) where
 
   pub past_areas : AreasPass → (k : ℕ) → area_number k ≡ k
   past_areas p k = rw (p.points, p.columns, p.variables, p.journal_fits_lem)
+
+  module _ (points : List ℕ) (e : first_of (area_rows lengths journal kept) ≡ 0) where
+    -- the slots fill their area, so they can be counted
+    pub back_points : lengths.points ≡ length points → points_fit (length points) ≡ true
+    back_points h = rw h at (areas_pass (sym area_rows_lem ∙ e)).0.points
 
 -- tests, with what comes behind them: none refuses, and what comes behind is the number; or one does, its number is below 101, and what comes behind is
 -- not looked at
@@ -253,6 +258,11 @@ module _ (frame : List ℕ) (axes : Axes) (settings : Settings) (lengths : Lengt
   unfolding check_rows area_rows
   check_rows_lem = refl
 
+  pub checked_rows : (points : List ℕ) → first_of (check_rows frame axes settings lengths journal kept ++ (rows_from_sum settings frame points kept))
+      ≡ silent_number 1024 frame axes settings lengths journal kept points 0
+  unfolding check_rows area_rows late_rows count_rows
+  checked_rows points = refl
+
 -- a call's rows
 abbrev pub number_of : Call → ℕ → ℕ
 number_of c =
@@ -276,10 +286,14 @@ pub silent_is : (c : Call) → silent_of c ≡ number_of c 0
 unfolding silent_of check_rows area_rows late_rows count_rows
 silent_is c = refl
 
+pub check_first : (c : Call) → check_silent_of c ≡ first_of (check_early c ++ late c)
+unfolding check_silent_of
+check_first c = refl
+
 pub check_silent_is : (c : Call)
     → check_silent_of c ≡ silent_number 1024 c.sent.frame c.sent.axes c.sent.settings (lengths_of c.areas) c.areas.journal c.areas.kept c.areas.points 0
-unfolding check_silent_of check_rows area_rows late_rows count_rows
-check_silent_is c = refl
+check_silent_is c =
+    check_first c ∙ checked_rows c.sent.frame c.sent.axes c.sent.settings (lengths_of c.areas) c.areas.journal c.areas.kept c.areas.points
 
 pub refusal_is : (c : Call)
     → refusal_of c ≡ number_of c (first_of (asked_rows (held_in (lengths_of c.areas)) c.sent.settings.fitted c.sent.settings.release (message_of c.sent.settings.release c.sent.frame) (content_in c.sent.frame)))
@@ -292,17 +306,14 @@ call_passed c e =
     c.areas.points (sym (silent_is c) ∙ e)
     ).0
 
--- each return of the tests of the areas, as the code reads them
-module _ (r : AreasRead) where
-  abbrev read : Areas
-  read = areas_read r
-
+-- each return of the tests of the areas, as the code works out their lengths
+module _ (t : AreasTested) where
   abbrev rows : List Row
-  rows = area_rows (lengths_of read) read.journal read.kept
+  rows = area_rows (lengths_tested t) t.journal.now t.kept
 
-  module _ {l : Lengths} (same : l ≡ lengths_of read) where
-    rows_are : first_of rows ≡ area_number l read.journal read.kept 0
-    rows_are = area_rows_lem (lengths_of read) read.journal read.kept ∙ sym (ap (λ (x : Lengths). area_number x read.journal read.kept 0) same)
+  module _ {l : Lengths} (same : l ≡ lengths_tested t) where
+    rows_are : first_of rows ≡ area_number l t.journal.now t.kept 0
+    rows_are = area_rows_lem (lengths_tested t) t.journal.now t.kept ∙ sym (ap (λ (x : Lengths). area_number x t.journal.now t.kept 0) same)
 
     pub area_2 : points_fit l.points ≡ false → 2 ≡ first_of rows
     area_2 e = sym (rows_are ∙ rw e)
@@ -316,98 +327,122 @@ module _ (r : AreasRead) where
         area_10 v = sym (rows_are ∙ rw (e, eq-eqb _ _ f, v))
 
         module _ (v : variables_fit l.integers l.flags l.firsts ≡ true) where
-          pub area_4 : journal_fits (held_in l) read.journal read.kept.used ≡ false → 4 ≡ first_of rows
+          pub area_4 : journal_fits (held_in l) t.journal.now t.kept.used ≡ false → 4 ≡ first_of rows
           area_4 g = sym (rows_are ∙ rw (e, eq-eqb _ _ f, v, g))
 
-          pub area_0 : journal_fits (held_in l) read.journal read.kept.used ≡ true → 0 ≡ first_of rows
+          pub area_0 : journal_fits (held_in l) t.journal.now t.kept.used ≡ true → 0 ≡ first_of rows
           area_0 g = sym (rows_are ∙ rw (e, eq-eqb _ _ f, v, g))
 
-  -- no area is refused: what comes behind is looked at, and the slots fill their area, so they can be counted
+  -- no area is refused: what comes behind is looked at, and the slots can be counted
   module _ (e : first_of rows ≡ 0) where
-    areas_passed : AreasPass (lengths_of read) read.journal read.kept
-    areas_passed = (areas_pass (lengths_of read) read.journal read.kept (sym (area_rows_lem (lengths_of read) read.journal read.kept) ∙ e)).0
+    area_past : (k : ℕ) → area_number (lengths_tested t) t.journal.now t.kept k ≡ k
+    area_past k =
+        past_areas (lengths_tested t) t.journal.now t.kept
+        (areas_pass (lengths_tested t) t.journal.now t.kept (sym (area_rows_lem (lengths_tested t) t.journal.now t.kept) ∙ e)).0
+        k
 
-    area_past : (k : ℕ) → area_number (lengths_of read) read.journal read.kept k ≡ k
-    area_past k = past_areas (lengths_of read) read.journal read.kept areas_passed k
-
-    pub area_points : points_fit (length read.points) ≡ true
-    area_points = areas_passed.points
+    pub area_points : points_fit (length t.points.now) ≡ true
+    area_points = back_points (lengths_tested t) t.journal.now t.kept t.points.now e refl
 
   -- each return of a step back's tests
-  pub back_area : {n : ℕ} → n ≡ first_of rows → (n ≡ 0 → ⊥) → n ≡ back_refusal_of read
-  unfolding back_refusal_of
+  abbrev back : List Row
+  back = back_rows (lengths_tested t) t.points.now t.journal.now t.kept
+
+  pub back_area : {n : ℕ} → n ≡ first_of rows → (n ≡ 0 → ⊥) → n ≡ first_of back
   back_area e f =
-      e ∙ area_given (lengths_of read) read.journal read.kept _ (λ z. f (e ∙ z))
-      ∙ sym (back_rows_lem (lengths_of read) read.journal read.kept read.points)
+      e ∙ area_given (lengths_tested t) t.journal.now t.kept _ (λ z. f (e ∙ z))
+      ∙ sym (back_rows_lem (lengths_tested t) t.journal.now t.kept t.points.now)
 
   module _ (e : first_of rows ≡ 0) where
-    back_behind : {k : ℕ} → own_back (lengths_of read) read.journal read.kept read.points ≡ k → k ≡ back_refusal_of read
-    unfolding back_refusal_of
-    back_behind g = sym (back_rows_lem (lengths_of read) read.journal read.kept read.points ∙ area_past e _ ∙ g)
+    back_behind : {k : ℕ} → own_back (lengths_tested t) t.journal.now t.kept t.points.now ≡ k → k ≡ first_of back
+    back_behind g = sym (back_rows_lem (lengths_tested t) t.journal.now t.kept t.points.now ∙ area_past e _ ∙ g)
 
-    pub back_11 : count_true read.points read.kept.effective ≡ false → 11 ≡ back_refusal_of read
-    back_11 t = back_behind (rw t)
+    pub back_11 : count_true t.points.now t.kept.effective ≡ false → 11 ≡ first_of back
+    back_11 c = back_behind (rw c)
 
-    module _ (t : count_true read.points read.kept.effective ≡ true) where
-      pub back_9 : read.kept.used ≡ 0 → 9 ≡ back_refusal_of read
-      back_9 u = back_behind (rw (t, eq-eqb _ _ u))
+    module _ (c : count_true t.points.now t.kept.effective ≡ true) where
+      pub back_9 : t.kept.used ≡ 0 → 9 ≡ first_of back
+      back_9 u = back_behind (rw (c, eq-eqb _ _ u))
 
-      pub back_0 : (read.kept.used ≡ 0 → ⊥) → 0 ≡ back_refusal_of read
-      back_0 u = back_behind (rw (t, ne_eqb _ _ u))
+      pub back_0 : (t.kept.used ≡ 0 → ⊥) → 0 ≡ first_of back
+      back_0 u = back_behind (rw (c, ne_eqb _ _ u))
 
 -- each return of a frame's tests before the sum
-module _ (s : SentLent) (r : AreasRead) where
-  abbrev call : Call
-  call = call_in s [] (areas_read r)
+module _ (s : SentLent) (t : AreasTested) where
+  abbrev before : List Row
+  before = check_rows s.frame.now s.axes s.settings (lengths_tested t) t.journal.now t.kept
 
   abbrev own : ℕ → ℕ
-  own k = own_number call.sent.axes call.sent.settings call.sent.frame k
+  own k = own_number s.axes s.settings s.frame.now k
 
-  early_are : first_of (check_early call) ≡ area_number (lengths_of call.areas) call.areas.journal call.areas.kept (own 0)
-  early_are = check_rows_lem call.sent.frame call.sent.axes call.sent.settings (lengths_of call.areas) call.areas.journal call.areas.kept
+  early_are : first_of before ≡ area_number (lengths_tested t) t.journal.now t.kept (own 0)
+  early_are = check_rows_lem s.frame.now s.axes s.settings (lengths_tested t) t.journal.now t.kept
 
-  pub early_area : {n : ℕ} → n ≡ first_of (rows r) → (n ≡ 0 → ⊥) → n ≡ first_of (check_early call)
-  early_area {n} e f = e ∙ area_given (lengths_of call.areas) call.areas.journal call.areas.kept (own 0) (λ z. f (e ∙ z)) ∙ sym early_are
+  pub early_area : {n : ℕ} → n ≡ first_of (rows t) → (n ≡ 0 → ⊥) → n ≡ first_of before
+  early_area {n} e f = e ∙ area_given (lengths_tested t) t.journal.now t.kept (own 0) (λ z. f (e ∙ z)) ∙ sym early_are
 
-  module _ (e : first_of (rows r) ≡ 0) where
-    early_behind : {k : ℕ} → own 0 ≡ k → k ≡ first_of (check_early call)
-    early_behind g = sym (early_are ∙ area_past r e _ ∙ g)
+  module _ (e : first_of (rows t) ≡ 0) where
+    early_behind : {k : ℕ} → own 0 ≡ k → k ≡ first_of before
+    early_behind g = sym (early_are ∙ area_past t e _ ∙ g)
 
-    pub early_5 : axes_fit call.sent.axes call.sent.settings.fitted ≡ false → 5 ≡ first_of (check_early call)
+    pub early_5 : axes_fit s.axes s.settings.fitted ≡ false → 5 ≡ first_of before
     early_5 f = early_behind (rw f)
 
-    module _ (f : axes_fit call.sent.axes call.sent.settings.fitted ≡ true) where
-      pub early_13 : release_fits call.sent.settings.release ≡ false → 13 ≡ first_of (check_early call)
+    module _ (f : axes_fit s.axes s.settings.fitted ≡ true) where
+      pub early_13 : release_fits s.settings.release ≡ false → 13 ≡ first_of before
       early_13 g = early_behind (rw (f, g))
 
-      module _ (g : release_fits call.sent.settings.release ≡ true) where
-        pub early_6 : shaped call.sent.frame ≡ false → 6 ≡ first_of (check_early call)
+      module _ (g : release_fits s.settings.release ≡ true) where
+        pub early_6 : shaped s.frame.now ≡ false → 6 ≡ first_of before
         early_6 h = early_behind (rw (f, g, h))
 
-        pub early_0 : shaped call.sent.frame ≡ true → 0 ≡ first_of (check_early call)
+        pub early_0 : shaped s.frame.now ≡ true → 0 ≡ first_of before
         early_0 h = early_behind (rw (f, g, h))
 
   -- behind them stand the sum, the station and the count
-  pub silent_early : {n : ℕ} → n ≡ first_of (check_early call) → (n ≡ 0 → ⊥) → n ≡ check_silent_of call
+  abbrev from_sum : List Row
+  from_sum = rows_from_sum s.settings s.frame.now t.points.now t.kept
+
+  all_are : first_of (before ++ from_sum) ≡ silent_number 1024 s.frame.now s.axes s.settings (lengths_tested t) t.journal.now t.kept t.points.now 0
+  all_are = checked_rows s.frame.now s.axes s.settings (lengths_tested t) t.journal.now t.kept t.points.now
+
+  pub silent_early : {n : ℕ} → n ≡ first_of before → (n ≡ 0 → ⊥) → n ≡ first_of (before ++ from_sum)
   silent_early e f =
       let q = e ∙ early_are in
-      q ∙ sym (check_silent_is call ∙ (early_given 1024 call.sent.frame call.sent.axes call.sent.settings (lengths_of call.areas) call.areas.journal call.areas.kept _ (λ z. f (q ∙ z))).0)
+      q ∙ sym (all_are ∙ (early_given 1024 s.frame.now s.axes s.settings (lengths_tested t) t.journal.now t.kept _ (λ z. f (q ∙ z))).0)
 
-  module _ (e : first_of (check_early call) ≡ 0) where
-    none_early : EarlyPassed 1024 call.sent.frame call.sent.axes call.sent.settings (lengths_of call.areas) call.areas.journal call.areas.kept
-    none_early =
-        (early_passed 1024 call.sent.frame call.sent.axes call.sent.settings (lengths_of call.areas) call.areas.journal call.areas.kept (sym early_are ∙ e)).0
+  module _ (e : first_of before ≡ 0) where
+    none_early : EarlyPassed 1024 s.frame.now s.axes s.settings (lengths_tested t) t.journal.now t.kept
+    none_early = (early_passed 1024 s.frame.now s.axes s.settings (lengths_tested t) t.journal.now t.kept (sym early_are ∙ e)).0
 
-    pub silent_long : 10 ≤ length call.sent.frame
-    silent_long = shaped_long call.sent.frame none_early.shape
+    pub silent_long : 10 ≤ length s.frame.now
+    silent_long = shaped_long s.frame.now none_early.shape
 
-    pub silent_points : points_fit (length call.areas.points) ≡ true
+    pub silent_points : points_fit (length t.points.now) ≡ true
     silent_points = none_early.areas.points
 
-    pub silent_late : {n : ℕ} → n ≡ first_of (late call) → n ≡ check_silent_of call
+    pub silent_late : {n : ℕ} → n ≡ first_of from_sum → n ≡ first_of (before ++ from_sum)
     silent_late g =
-        g ∙ late_rows_lem call.sent.settings call.sent.frame call.areas.points call.areas.kept
-        ∙ sym (check_silent_is call ∙ past_early 1024 call.sent.frame call.sent.axes call.sent.settings (lengths_of call.areas) call.areas.journal call.areas.kept none_early _)
+        g ∙ late_rows_lem s.settings s.frame.now t.points.now t.kept
+        ∙ sym (all_are ∙ past_early 1024 s.frame.now s.axes s.settings (lengths_tested t) t.journal.now t.kept none_early _)
+
+-- what the tests give of what is tested is what they give of the areas that it is of: a check's refusal without a reply, what it tells of the sum, and a
+-- step back's refusal
+module _ (c : Call) (t : AreasTested) (e : TestedOf t c.areas) where
+  pub silent_tested : first_of (check_rows c.sent.frame c.sent.axes c.sent.settings (lengths_tested t) t.journal.now t.kept
+      ++ rows_from_sum c.sent.settings c.sent.frame t.points.now t.kept)
+      ≡ check_silent_of c
+  silent_tested =
+      (λ i. first_of (check_rows c.sent.frame c.sent.axes c.sent.settings (e.0 i) (e.2 i) (e.3 i) ++ rows_from_sum c.sent.settings c.sent.frame (e.1 i) (e.3 i)))
+      ∙ sym (check_first c)
+
+  pub told_tested : told_after (first_of (check_rows c.sent.frame c.sent.axes c.sent.settings (lengths_tested t) t.journal.now t.kept)) c.sent.settings.release c.sent.frame
+      ≡ check_told_of c
+  told_tested = λ i. told_after (first_of (check_rows c.sent.frame c.sent.axes c.sent.settings (e.0 i) (e.2 i) (e.3 i))) c.sent.settings.release c.sent.frame
+
+pub back_tested : (a : Areas) (t : AreasTested) → TestedOf t a → first_of (back_rows (lengths_tested t) t.points.now t.journal.now t.kept) ≡ back_refusal_of a
+unfolding back_refusal_of
+back_tested a t e = λ i. first_of (back_rows (e.0 i) (e.1 i) (e.2 i) (e.3 i))
 
 -- the tests of the sum, the station and the count, by what the sum test said
 module _ (settings : Settings) (frame points : List ℕ) (kept : Kept) where

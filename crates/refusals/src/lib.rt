@@ -2,18 +2,17 @@
 // b: 11; f: 12; l: 13; g: a check tests them too).
 #![tactic(auto)]
 
-ghost use Rattle.std.specs.Prelude.{◌≡◌, true, cond, not, [], ◌≤◌, length};
+ghost use Rattle.std.specs.Prelude.{◌≡◌, true, cond, not, ◌++◌, ◌≤◌, length};
 ghost use Rattle.frames.specs.Frame.{sum_said};
 ghost use Rattle.kinds.specs.Kinds.{Sound};
 ghost use Rattle.table.specs.Table.{message_numbered, message_of};
-ghost use Rattle.calls.specs.Calls.{lengths_of};
-ghost use Rattle.calls.specs.Lent.{areas_read, call_in};
+ghost use Rattle.calls.specs.Lent.{lengths_tested};
 ghost use Rattle.messages.specs.Refusal.{number_by};
 ghost use Rattle.messages.specs.Rows.{first_of};
-ghost use Rattle.refusals.specs.Refusals.{points_fit, variables_fit, journal_fits, records_fit, axes_fit, release_fits, count_true, miscounted, area_rows, rows_from_sum, check_early, check_silent_of, check_told_of, back_refusal_of};
+ghost use Rattle.refusals.specs.Refusals.{points_fit, variables_fit, journal_fits, records_fit, axes_fit, release_fits, count_true, miscounted, area_rows, check_rows, rows_from_sum, told_after, back_rows};
 
 use axes::{Axes, AxisRecord};
-use calls::{AreasRead, Sent};
+use calls::{AreasTested, Sent};
 use frames::checks::{Sum, is_ours, is_shaped, test_sum};
 use journal::is_whole;
 use kinds::{Firsts, Held, held_in};
@@ -83,8 +82,8 @@ fn fits_axes(axes: Axes, fitted: u8) -> bool
 }
 
 // Tests 2, 3, 10 and 4, of a frame and of a step back.
-fn test_areas(areas: AreasRead<'_>) -> Result<(), Refusal>
-    ensures { number_by result ≡ first_of (area_rows (lengths_of (areas_read areas.entry)) areas.entry.journal.now areas.entry.kept) }
+fn test_areas(areas: AreasTested<'_>) -> Result<(), Refusal>
+    ensures { number_by result ≡ first_of (area_rows (lengths_tested areas.entry) areas.entry.journal.now areas.entry.kept) }
 {
     let lengths = areas.lengths();
     if !fits_points(lengths.points) {
@@ -143,7 +142,7 @@ fn test_count(release: u8, frame: &[u8], points: &[u8], effective: usize) -> Res
 }
 
 // Tests 12, 7 and 8, by what the sum test said, and 11.
-fn test_late(sum: Sum, sent: Sent<'_>, areas: AreasRead<'_>) -> Result<(), Refusal>
+fn test_late(sum: Sum, sent: Sent<'_>, areas: AreasTested<'_>) -> Result<(), Refusal>
     requires { (10 ≤ length sent.frame.now) × (sum ≡ sum_said sent.settings.release sent.frame.now) × (points_fit (length areas.points.now) ≡ true) }
     ensures { number_by result ≡ first_of (rows_from_sum sent.entry.settings sent.entry.frame.now areas.entry.points.now areas.entry.kept) }
 {
@@ -166,8 +165,8 @@ fn test_late(sum: Sum, sent: Sent<'_>, areas: AreasRead<'_>) -> Result<(), Refus
 }
 
 // Tests 2 to 6, 10 and 13.
-fn test_early(sent: Sent<'_>, areas: AreasRead<'_>) -> Result<(), Refusal>
-    ensures { number_by result ≡ first_of (check_early (call_in sent.entry [] (areas_read areas.entry))) }
+fn test_early(sent: Sent<'_>, areas: AreasTested<'_>) -> Result<(), Refusal>
+    ensures { let s = sent.entry in let t = areas.entry in number_by result ≡ first_of (check_rows s.frame.now s.axes s.settings (lengths_tested t) t.journal.now t.kept) }
 {
     test_areas(areas)?;
     if !fits_axes(sent.axes, sent.settings.fitted) {
@@ -183,9 +182,11 @@ fn test_early(sent: Sent<'_>, areas: AreasRead<'_>) -> Result<(), Refusal>
 }
 
 // Whether the refusals without a reply are passed, 2 to 8 and 10 to 13, and what is told of the sum; 1 is tested where there is a reply area, before all this.
-pub fn silent(sent: Sent<'_>, areas: AreasRead<'_>) -> Hearing
-    ensures number_value { number_by result.passed ≡ check_silent_of (call_in sent.entry [] (areas_read areas.entry)) }
-    ensures sum_value { result.sum ≡ check_told_of (call_in sent.entry [] (areas_read areas.entry)) }
+pub fn silent(sent: Sent<'_>, areas: AreasTested<'_>) -> Hearing
+    ensures number_value { let s = sent.entry in let t = areas.entry in number_by result.passed
+        ≡ first_of (check_rows s.frame.now s.axes s.settings (lengths_tested t) t.journal.now t.kept ++ rows_from_sum s.settings s.frame.now t.points.now t.kept) }
+    ensures sum_value { let s = sent.entry in let t = areas.entry in result.sum
+        ≡ told_after (first_of (check_rows s.frame.now s.axes s.settings (lengths_tested t) t.journal.now t.kept)) s.settings.release s.frame.now }
 {
     if let Err(refusal) = test_early(sent, areas) {
         return Hearing {
@@ -202,8 +203,8 @@ pub fn silent(sent: Sent<'_>, areas: AreasRead<'_>) -> Hearing
 
 // The step back's tests: 2, 3, 10, 4, 11, then 9.
 #[tactic(auto, using(crate::proofs::Rows::back_9))]
-pub fn back_refusal(areas: AreasRead<'_>) -> Result<(), Refusal>
-    ensures { number_by result ≡ back_refusal_of (areas_read areas.entry) }
+pub fn back_refusal(areas: AreasTested<'_>) -> Result<(), Refusal>
+    ensures { let t = areas.entry in number_by result ≡ first_of (back_rows (lengths_tested t) t.points.now t.journal.now t.kept) }
 {
     test_areas(areas)?;
     if !is_count_true(areas.points, areas.kept.effective) {

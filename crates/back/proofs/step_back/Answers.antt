@@ -10,6 +10,7 @@ use Rattle.journal.proofs.Codec.{Bytes}
 use Rattle.calls.specs.Calls.{lengths_of}
 use Rattle.calls.specs.Lent.{areas_in}
 use Rattle.refusals.specs.Refusals.{back_refusal_of}
+use Rattle.refusals.proofs.Rows.{back_tested}
 use Rattle.std.proofs.lemmas.Result.{err_from_is_err_and}
 use Rattle.messages.proofs.Numbered.{refusal_some}
 use Rattle.back.proofs.Backing.{can_step_back, stepped_refused, find_needs, put_needs, stepped}
@@ -19,11 +20,11 @@ use Rattle.back.proofs.step_back.Goals.{After-take-journal, After-find_last-last
 pub returns-in_err-back_refusal-clause-steps_back : goal.returns-in_err-back_refusal-clause-steps_back
 returns-in_err-back_refusal-clause-steps_back c =
     let p = err_from_is_err_and c.from_residual.result c.from_residual.ensures.1 in
-    rw (p.1, p.2) (stepped_refused _ _ (c.in_err-back_refusal.ensures ∙ ap back_refusal_of c.read-read.ensures) (refusal_some _))
+    rw (p.1, p.2) (stepped_refused _ _ (c.in_err-back_refusal.ensures ∙ back_tested _ c.tested.result c.tested.ensures ∙ ap back_refusal_of c.read-read.ensures) (refusal_some _))
 
 -- the areas passed the tests, and the board holds what they are long enough for
 passed : (c : After-take-journal) → back_refusal_of (areas_in c.args.areas.now) ≡ 0
-passed c = sym (c.in_ok-back_refusal.ensures ∙ ap back_refusal_of c.read-read.ensures)
+passed c = sym (c.in_ok-back_refusal.ensures ∙ back_tested _ c.tested.result c.tested.ensures ∙ ap back_refusal_of c.read-read.ensures)
 
 held : (c : After-take-journal) → c.held_in-held.result ≡ held_in (lengths_of (areas_in c.args.areas.now))
 held c = c.held_in-held.ensures ∙ ap held_in (c.lengths.ensures ∙ ap lengths_of c.read-read.ensures)
