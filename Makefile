@@ -3,7 +3,7 @@ SHELL := /bin/bash
 .SHELLFLAGS := -eu -o pipefail -c
 .ONESHELL:
 .SILENT:
-.PHONY: run test second archive header host sections vectors stored differential benchmark tools
+.PHONY: run test second archive header host sections vectors stored malformed differential benchmark tools
 
 STRICT := -Wall -Wextra -Werror -pedantic -Iinclude
 ARCHIVE := target/staticlib/libboard.a
@@ -26,7 +26,7 @@ run:
 	.ci/prove run bench
 	exec crates/bench/out/bench
 
-# the gate: rt ci first, then second, stored, header, host, sections and differential
+# the gate: rt ci first, then second, stored, malformed, header, host, sections and differential
 test: tools
 	exec .ci/run
 
@@ -69,6 +69,16 @@ stored: tools
 	cmp target/vectors/stdin crates/vectors/stdin
 	cmp target/vectors/stdout crates/vectors/stdout
 
+# operations that the second program never writes: an input that is cut off in a field, a call before the first 'B', an 'X' of no buffer
+malformed:
+	.ci/prove run vectors
+	says() { cmp <(printf "$$1" | crates/vectors/out/vectors) <(echo "$$2"); }
+	says 'S\x01' 'S 4 0 0 6BB13106 C20CD8D6 C844E541 4075688A 00000000'
+	says 'S\x00\x01\xff\x99\x01\x01\x00\x00\x10\x00\xff' 'S 10 0 0 5F42C8EE C20CD8D6 C844E541 4075688A F7695982'
+	says 'F\x00\x00' 'F 2 0 0 0 0 00000000 C20CD8D6 C844E541 4075688A 00000000 8B0359A9'
+	says 'B\x00\x01\xff\x99\x01\x01\x00\x00\x02\x1c\x00\xc8\x02XX\x07\x00\x00\x00\x01\xffC\x00\x00' 'C 6 0 0 0 0 5F42C8EE C20CD8D6 C844E541 4075688A 2FC3FE78'
+	echo "malformed operations: 4 as before the design pass"
+
 # the archive: the bench listing in pieces of every length, the README's two programs, then every vector
 host: tools archive
 	gcc -std=c99 -O2 $(STRICT) host/bench_listing.c $(ARCHIVE) -o target/host/bench_listing
@@ -83,10 +93,12 @@ host: tools archive
 	target/host/play_vectors < crates/vectors/stdin | cmp - crates/vectors/stdout
 	echo "vectors: $$(wc -l < crates/vectors/stdout) calls as the second program says"
 
-# the archive's sections, in which no table of digits is (.ci/sections); host/plain.c has one as data, and the line below has one that code lays, and
-# each rule that they break must say so
+# the archive's sections, in which no table of digits is (.ci/sections), and what it asks its host for; host/plain.c has a table as data, and a line
+# below has one that code lays, and each rule that they break must say so
 sections: tools archive
 	.ci/sections $(ARCHIVE) $(TABLES) $(READ_ONLY) $(RISING)
+	asks=$$(nm -u $(ARCHIVE) | sed -n 's/^ *U //p' | sort -u | xargs)
+	[[ $$asks == memset ]] || { echo "the archive asks its host for: $$asks" >&2; exit 1; }
 	gcc -std=c99 -O2 $(STRICT) -c host/plain.c -o target/host/plain.o
 	echo 'int worth(int d) { volatile char of[8] = {1, 2, 3, 4, 5, 6, 7, 8}; return of[d & 7]; }' | gcc -O2 -x c -c - -o target/host/laid.o
 	said=$$(.ci/sections target/host/plain.o 0 0 2>&1) && { echo "the table of host/plain.c was not refused" >&2; exit 1; }
